@@ -1,0 +1,55 @@
+-- Truth values: what `||` and `&&` say of `T`, and when two truth values are equal.
+-- Assumes nothing.
+use mathlib.Core.Path.{_≡_, refl, sym, subst}
+use mathlib.Core.Logic.{_⊎_, inl, inr}
+use mathlib.Core.Bool.{Bool, true, false, _&&_, _||_}
+use lib.Dec.{T}
+
+pub or-left : (a b : Bool) → T a → T (a || b)
+or-left true b t = tt
+or-left false b t = absurd t
+
+pub or-right : (a b : Bool) → T b → T (a || b)
+or-right true b t = tt
+or-right false b t = t
+
+pub or-cases : (a b : Bool) → T (a || b) → T a ⊎ T b
+or-cases true b t = inl tt
+or-cases false b t = inr t
+
+pub and-both : (a b : Bool) → T a → T b → T (a && b)
+and-both true b s t = t
+and-both false b s t = s
+
+pub and-left : (a b : Bool) → T (a && b) → T a
+and-left true b t = tt
+and-left false b t = t
+
+pub and-right : (a b : Bool) → T (a && b) → T b
+and-right true b t = t
+and-right false b t = absurd t
+
+pub is-true : (a : Bool) → T a → a ≡ true
+is-true true t = refl
+is-true false t = absurd t
+
+pub is-false : (a : Bool) → (T a → ⊥) → a ≡ false
+is-false true f = absurd (f tt)
+is-false false f = refl
+
+pub holds : {a : Bool} → a ≡ true → T a
+holds e = subst T (sym e) tt
+
+pub fails : {a : Bool} → a ≡ false → T a → ⊥
+fails e t = subst T e t
+
+-- two tests that pass together are the same
+pub same-test : (a b : Bool) → (T a → T b) → (T b → T a) → a ≡ b
+same-test true b f g = sym (is-true b (f tt))
+same-test false true f g = absurd (g tt)
+same-test false false f g = refl
+
+-- a test passes, or it is false
+pub test : (a : Bool) → T a ⊎ (a ≡ false)
+test true = inl tt
+test false = inr refl

@@ -1,0 +1,274 @@
+-- The claims of specs/Laws.antt, each proved under its name. Every law of a relation is a law of its cells (Cells.antt), at whichever relation.
+-- Assumes nothing.
+use Prim.Native.Nat.{ℕ, zero, suc, _+_, _*_, _≤_, _<_, _/_, _%_}
+use mathlib.Core.Path.{_≡_, refl, sym, ap, _∙_}
+use mathlib.Core.Logic.{_⊎_, inl, inr}
+use mathlib.Core.Bool.{Bool, true, false, cond}
+use mathlib.Core.List.{List}
+use native.Mathlib.Omega.{arith}
+use borrow.Author.Tests.{eq-eqb, ne-eqb, eqb-true}
+use lib.Dec.{T, eqb}
+use lib.ListN.{length, getD}
+use lib.Seq.{ext-getD}
+use Rattle.state.specs.Cells.{Pairs, width, member, mark, pair, put}
+use Rattle.state.specs.Site.{Kind, user, area, object, limit, members, kindNumber, afterMark, withListed, Relation, owner, definition, structure, import, export, firstKind, cells, related, relationNumber, afterPut, withPair, empty, founding, Shaped}
+use Rattle.state.specs.Laws
+use Rattle.state.specs.declared.State.{State}
+use Rattle.state.proofs.Cells.{member-outside, mark-outside, length-mark, member-same, member-other, member-ext, pair-inside, pair-outside, pair-beyond, put-outside, put-past, length-put, pair-same, pair-other, pair-kept, pair-removed, no-member, no-pair, only-zero, only-zeros}
+
+-- ---- one of several is written
+-- Things of K are told apart by a number. One of them, k, is written; this is what each, l, is afterwards.
+module _ {K : Type 0} (number : K → ℕ) (named : ℕ → K) (back : (k : K) → named (number k) ≡ k) where
+  same-name : (l k : K) → number l ≡ number k → l ≡ k
+  same-name l k e = sym (back l) ∙ ap named e ∙ back k
+
+  written : (k : K) (new old : List Bool) → cond (eqb (number k) (number k)) new old ≡ new
+  written k new old = ap (λ (b : Bool). cond b new old) (eq-eqb (number k) (number k) refl)
+
+  untouched : (l k : K) (new old : List Bool) → (l ≡ k → ⊥) → cond (eqb (number l) (number k)) new old ≡ old
+  untouched l k new old ne = ap (λ (b : Bool). cond b new old) (ne-eqb (number l) (number k) (λ e. ne (same-name l k e)))
+
+  -- whatever holds of what is written and of what was there holds afterwards
+  either : (P : List Bool → Type 0) (l k : K) (new old : List Bool) → (l ≡ k → P new) → P old → P (cond (eqb (number l) (number k)) new old)
+  either P l k new old p q = go (eqb (number l) (number k)) refl
+    where
+      go : (b : Bool) → eqb (number l) (number k) ≡ b → P (cond b new old)
+      go true e = p (same-name l k (eqb-true (number l) (number k) e))
+      go false e = q
+
+kindNamed : ℕ → Kind
+kindNamed zero = user
+kindNamed (suc zero) = area
+kindNamed (suc (suc n)) = object
+
+kind-back : (k : Kind) → kindNamed (kindNumber k) ≡ k
+unfolding kindNamed
+kind-back user = refl
+kind-back area = refl
+kind-back object = refl
+
+members-list : (s : State) (k : Kind) (i : ℕ) (v : Bool) (l : Kind) → members (withListed s k i v) l ≡ afterMark k i v l (members s l)
+members-list s k i v user = refl
+members-list s k i v area = refl
+members-list s k i v object = refl
+
+members-same : (s : State) (k : Kind) (i : ℕ) (v : Bool) → members (withListed s k i v) k ≡ mark (members s k) i v
+members-same s k i v = members-list s k i v k ∙ written kindNumber kindNamed kind-back k (mark (members s k) i v) (members s k)
+
+members-other : (s : State) (k l : Kind) (i : ℕ) (v : Bool) → (l ≡ k → ⊥) → members (withListed s k i v) l ≡ members s l
+members-other s k l i v ne = members-list s k i v l ∙ untouched kindNumber kindNamed kind-back l k (mark (members s l) i v) (members s l) ne
+
+each-set : (P : List Bool → Type 0) (s : State) (k : Kind) (i : ℕ) (v : Bool) (l : Kind) → (l ≡ k → P (mark (members s l) i v)) → P (members s l) → P (members (withListed s k i v) l)
+each-set P s k i v l p q = rw (members-list s k i v l) (either kindNumber kindNamed kind-back P l k (mark (members s l) i v) (members s l) p q)
+
+relationNamed : ℕ → Relation
+relationNamed zero = owner
+relationNamed (suc zero) = definition
+relationNamed (suc (suc zero)) = structure
+relationNamed (suc (suc (suc zero))) = import
+relationNamed (suc (suc (suc (suc n)))) = export
+
+relation-back : (r : Relation) → relationNamed (relationNumber r) ≡ r
+unfolding relationNamed
+relation-back owner = refl
+relation-back definition = refl
+relation-back structure = refl
+relation-back import = refl
+relation-back export = refl
+
+cells-relate : (s : State) (r : Relation) (i j : ℕ) (v : Bool) (t : Relation) → cells (withPair s r i j v) t ≡ afterPut r i j v t (cells s t)
+cells-relate s r i j v owner = refl
+cells-relate s r i j v definition = refl
+cells-relate s r i j v structure = refl
+cells-relate s r i j v import = refl
+cells-relate s r i j v export = refl
+
+cells-same : (s : State) (r : Relation) (i j : ℕ) (v : Bool) → cells (withPair s r i j v) r ≡ put (cells s r) i j v
+cells-same s r i j v = cells-relate s r i j v r ∙ written relationNumber relationNamed relation-back r (put (cells s r) i j v) (cells s r)
+
+cells-other : (s : State) (r t : Relation) (i j : ℕ) (v : Bool) → (t ≡ r → ⊥) → cells (withPair s r i j v) t ≡ cells s t
+cells-other s r t i j v ne = cells-relate s r i j v t ∙ untouched relationNumber relationNamed relation-back t r (put (cells s t) i j v) (cells s t) ne
+
+each-relation : (P : List Bool → Type 0) (s : State) (r : Relation) (i j : ℕ) (v : Bool) (t : Relation) → (t ≡ r → P (put (cells s t) i j v)) → P (cells s t) → P (cells (withPair s r i j v) t)
+each-relation P s r i j v t p q = rw (cells-relate s r i j v t) (either relationNumber relationNamed relation-back P t r (put (cells s t) i j v) (cells s t) p q)
+
+members-relate : (s : State) (r : Relation) (i j : ℕ) (v : Bool) (k : Kind) → members (withPair s r i j v) k ≡ members s k
+members-relate s r i j v user = refl
+members-relate s r i j v area = refl
+members-relate s r i j v object = refl
+
+cells-list : (s : State) (k : Kind) (i : ℕ) (v : Bool) (r : Relation) → cells (withListed s k i v) r ≡ cells s r
+cells-list s k i v owner = refl
+cells-list s k i v definition = refl
+cells-list s k i v structure = refl
+cells-list s k i v import = refl
+cells-list s k i v export = refl
+
+-- ---- the sets
+pub listed-same : Laws.ListedSame
+listed-same s k i v sh h = rw (members-same s k i v) (member-same (members s k) i v (rw (sh .sets k) h))
+
+pub listed-other : Laws.ListedOther
+listed-other s k i n v ne = rw (members-same s k i v) (member-other (members s k) i n v ne)
+
+pub listed-other-kind : Laws.ListedOtherKind
+listed-other-kind s k l i n v ne = ap (λ (c : List Bool). member c n) (members-other s k l i v ne)
+
+pub list-keeps-pairs : Laws.ListKeepsPairs
+list-keeps-pairs s k i v r m n = ap (λ (c : List Bool). pair c m n) (cells-list s k i v r)
+
+pub listed-outside : Laws.ListedOutside
+listed-outside s k i sh h = member-outside (members s k) i (rw (sh .sets k) h)
+
+-- ---- the relations
+-- a pair within the limits has its cell, and one outside has none
+cell-within : (n i j : ℕ) → i < n → j < width → i * width + j < n * width
+cell-within n i j hi hj = omega arith
+
+pub related-same : Laws.RelatedSame
+related-same s r i j v sh hi hj =
+    rw (cells-same s r i j v) (pair-same (cells s r) i j v hj (rw (sh .relations r) (cell-within (limit (firstKind r)) i j hi hj)))
+
+pub related-other : Laws.RelatedOther
+related-other s r i j m n v ne = rw (cells-same s r i j v) (pair-other (cells s r) i j m n v ne)
+
+pub related-other-relation : Laws.RelatedOtherRelation
+related-other-relation s r t i j m n v ne = ap (λ (c : List Bool). pair c m n) (cells-other s r t i j v ne)
+
+pub relate-keeps-lists : Laws.RelateKeepsLists
+relate-keeps-lists s r i j v k n = ap (λ (c : List Bool). member c n) (members-relate s r i j v k)
+
+pub add-keeps-pairs : Laws.AddKeepsPairs
+add-keeps-pairs s r t i j m n = each-relation (λ (c : Pairs). T (related s t m n) → T (pair c m n)) s r i j true t (λ e. pair-kept (cells s t) i j m n) (λ h. h)
+
+pub remove-adds-none : Laws.RemoveAddsNone
+remove-adds-none s r t i j m n = each-relation (λ (c : Pairs). T (pair c m n) → T (related s t m n)) s r i j false t (λ e. pair-removed (cells s t) i j m n) (λ h. h)
+
+pub pair-cell : Laws.PairCell
+pair-cell c i j h = pair-inside c i j h
+
+pub pair-past : Laws.PairPast
+pair-past c i j (inl h) = pair-outside c i j h
+pair-past c i j (inr h) = pair-beyond c i j h
+
+pub related-outside : Laws.RelatedOutside
+related-outside s r i j sh (inl h) = pair-beyond (cells s r) i j (rw (sh .relations r) (omega arith))
+related-outside s r i j sh (inr h) = pair-outside (cells s r) i j h
+
+-- ---- the shape
+pub list-shaped : Laws.ListShaped
+list-shaped s k i v sh =
+    record {
+      sets = λ l. each-set (λ (c : List Bool). length c ≡ limit l) s k i v l (λ e. length-mark (members s l) i v ∙ sh .sets l) (sh .sets l);
+      relations = λ r. ap length (cells-list s k i v r) ∙ sh .relations r;
+    }
+
+pub relate-shaped : Laws.RelateShaped
+relate-shaped s r i j v sh =
+    record {
+      sets = λ k. ap length (members-relate s r i j v k) ∙ sh .sets k;
+      relations = λ t. each-relation (λ (c : List Bool). length c ≡ limit (firstKind t) * width) s r i j v t (λ e. length-put (cells s t) i j v ∙ sh .relations t) (sh .relations t);
+    }
+
+empty-shaped : Shaped empty
+unfolding empty
+empty-shaped = record { sets = sets; relations = relations }
+  where
+    sets : (k : Kind) → length (members empty k) ≡ limit k
+    sets user = refl
+    sets area = refl
+    sets object = refl
+
+    relations : (r : Relation) → length (cells empty r) ≡ limit (firstKind r) * width
+    relations owner = refl
+    relations definition = refl
+    relations structure = refl
+    relations import = refl
+    relations export = refl
+
+pub founding-shaped : Laws.FoundingShaped
+unfolding founding
+founding-shaped =
+    relate-shaped (withListed (withListed empty user 0 true) area 0 true) owner 0 0 true
+    (list-shaped (withListed empty user 0 true) area 0 true (list-shaped empty user 0 true empty-shaped))
+
+pub shaped-by-lengths : Laws.ShapedByLengths
+shaped-by-lengths s us ar os ow de st im ex = record { sets = sets; relations = relations }
+  where
+    sets : (k : Kind) → length (members s k) ≡ limit k
+    sets user = us
+    sets area = ar
+    sets object = os
+
+    relations : (r : Relation) → length (cells s r) ≡ limit (firstKind r) * width
+    relations owner = ow
+    relations definition = de
+    relations structure = st
+    relations import = im
+    relations export = ex
+
+-- ---- equal readings
+same-fields : (s t : State) → ((k : Kind) → members s k ≡ members t k) → ((r : Relation) → cells s r ≡ cells t r) → s ≡ t
+same-fields s t m c i =
+    record {
+      users = m user i;
+      areas = m area i;
+      objects = m object i;
+      owners = c owner i;
+      definitions = c definition i;
+      structure = c structure i;
+      imports = c import i;
+      exports = c export i;
+    }
+
+-- each cell of a relation is the cell of a pair
+pair-ext : (c d : List Bool) (n : ℕ) → length c ≡ n * width → length d ≡ n * width → ((i j : ℕ) → i < n → j < width → pair c i j ≡ pair d i j) → c ≡ d
+pair-ext c d n lc ld each = ext-getD false c d (lc ∙ sym ld) at
+  where
+    at : (k : ℕ) → k < length c → getD c k false ≡ getD d k false
+    at k h =
+        let row : k / width < n = omega arith in
+        let column : k % width < width = omega arith in
+        let cell : k / width * width + k % width ≡ k = omega arith in
+        ap (λ (m : ℕ). getD c m false) (sym cell) ∙ sym (pair-inside c (k / width) (k % width) column) ∙ each (k / width) (k % width) row column
+        ∙ pair-inside d (k / width) (k % width) column ∙ ap (λ (m : ℕ). getD d m false) cell
+
+pub one-record : Laws.OneRecord
+one-record s t ss st same =
+    same-fields s t
+    (λ k. member-ext (members s k) (members t k) (ss .sets k ∙ sym (st .sets k)) (λ i h. same .lists k i (rw (ss .sets k) at h)))
+    (λ r. pair-ext (cells s r) (cells t r) (limit (firstKind r)) (ss .relations r) (st .relations r) (same .pairs r))
+
+-- ---- a write outside
+pub list-outside : Laws.ListOutside
+list-outside s k i v sh h = same-fields (withListed s k i v) s each (cells-list s k i v)
+  where
+    each : (l : Kind) → members (withListed s k i v) l ≡ members s l
+    each l = each-set (λ (c : List Bool). c ≡ members s l) s k i v l (λ e. mark-outside (members s l) i v (rw (sh .sets l, e) h)) refl
+
+pub relate-outside : Laws.RelateOutside
+relate-outside s r i j v sh out = same-fields (withPair s r i j v) s (members-relate s r i j v) each
+  where
+    outside : (t : Relation) → (limit (firstKind r) ≤ i) ⊎ (limit area ≤ j) → t ≡ r → put (cells s t) i j v ≡ cells s t
+    outside t (inl h) e = put-past (cells s t) i j v (rw (sh .relations t, e) (omega arith))
+    outside t (inr h) e = put-outside (cells s t) i j v h
+
+    each : (t : Relation) → cells (withPair s r i j v) t ≡ cells s t
+    each t = each-relation (λ (c : List Bool). c ≡ cells s t) s r i j v t (outside t out) refl
+
+-- ---- the founding state
+pub founding-listed : Laws.FoundingListed
+unfolding founding empty
+founding-listed i = (only-zero 32 i (omega arith), only-zero 32 i (omega arith), no-member 64 i)
+
+pub founding-owner : Laws.FoundingOwner
+unfolding founding empty
+founding-owner i j = only-zeros 1024 i j (omega arith)
+
+pub founding-no-pair : Laws.FoundingNoPair
+unfolding founding empty
+founding-no-pair owner i j ne = absurd (ne refl)
+founding-no-pair definition i j ne = no-pair 2048 i j
+founding-no-pair structure i j ne = no-pair 1024 i j
+founding-no-pair import i j ne = no-pair 2048 i j
+founding-no-pair export i j ne = no-pair 2048 i j

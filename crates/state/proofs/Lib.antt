@@ -1,0 +1,6 @@
+-- Cells has the laws of how a set and a relation are kept, and is this crate's own. Bools, Tabulate and Fill serve every crate above.
+mod Cells
+pub mod Bools
+pub mod Tabulate
+pub mod Fill
+pub mod Laws

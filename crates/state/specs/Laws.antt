@@ -1,0 +1,100 @@
+-- What is claimed of the readings and updates: reading after writing the same place, another place, another field; what lies outside; and that
+-- two records with equal readings are equal. Each claim is a type, which proofs/Laws.antt inhabits under the claim's name.
+use Prim.Native.Nat.{ℕ, _+_, _*_, _≤_, _<_}
+use mathlib.Core.Path.{_≡_}
+use mathlib.Core.Bool.{Bool, true, false, _&&_}
+use mathlib.Core.Logic.{_⊎_}
+use lib.Dec.{T, eqb}
+use lib.ListN.{length, getD}
+use Rattle.state.specs.Cells.{Pairs, width, pair}
+use Rattle.state.specs.Site.{Kind, user, area, object, limit, listed, withListed, Relation, owner, firstKind, related, withPair, founding, Shaped}
+use Rattle.state.specs.declared.State.{State}
+
+-- ---- a written number
+abbrev pub ListedSame : Type 0
+ListedSame = (s : State) (k : Kind) (i : ℕ) (v : Bool) → Shaped s → i < limit k → listed (withListed s k i v) k i ≡ v
+
+abbrev pub ListedOther : Type 0
+ListedOther = (s : State) (k : Kind) (i n : ℕ) (v : Bool) → (n ≡ i → ⊥) → listed (withListed s k i v) k n ≡ listed s k n
+
+abbrev pub ListedOtherKind : Type 0
+ListedOtherKind = (s : State) (k l : Kind) (i n : ℕ) (v : Bool) → (l ≡ k → ⊥) → listed (withListed s k i v) l n ≡ listed s l n
+
+abbrev pub ListKeepsPairs : Type 0
+ListKeepsPairs = (s : State) (k : Kind) (i : ℕ) (v : Bool) (r : Relation) (m n : ℕ) → related (withListed s k i v) r m n ≡ related s r m n
+
+-- ---- a written pair
+abbrev pub RelatedSame : Type 0
+RelatedSame = (s : State) (r : Relation) (i j : ℕ) (v : Bool) → Shaped s → i < limit (firstKind r) → j < limit area → related (withPair s r i j v) r i j ≡ v
+
+abbrev pub RelatedOther : Type 0
+RelatedOther = (s : State) (r : Relation) (i j m n : ℕ) (v : Bool) → (m ≡ i → n ≡ j → ⊥) → related (withPair s r i j v) r m n ≡ related s r m n
+
+abbrev pub RelatedOtherRelation : Type 0
+RelatedOtherRelation = (s : State) (r t : Relation) (i j m n : ℕ) (v : Bool) → (t ≡ r → ⊥) → related (withPair s r i j v) t m n ≡ related s t m n
+
+abbrev pub RelateKeepsLists : Type 0
+RelateKeepsLists = (s : State) (r : Relation) (i j : ℕ) (v : Bool) (k : Kind) (n : ℕ) → listed (withPair s r i j v) k n ≡ listed s k n
+
+-- an added pair is one pair more, and a removed one is one fewer
+abbrev pub AddKeepsPairs : Type 0
+AddKeepsPairs = (s : State) (r t : Relation) (i j m n : ℕ) → T (related s t m n) → T (related (withPair s r i j true) t m n)
+
+abbrev pub RemoveAddsNone : Type 0
+RemoveAddsNone = (s : State) (r t : Relation) (i j m n : ℕ) → T (related (withPair s r i j false) t m n) → T (related s t m n)
+
+-- ---- where a pair lies, for what reads a relation row by row
+abbrev pub PairCell : Type 0
+PairCell = (c : Pairs) (i j : ℕ) → j < width → pair c i j ≡ getD c (i * width + j) false
+
+abbrev pub PairPast : Type 0
+PairPast = (c : Pairs) (i j : ℕ) → (width ≤ j) ⊎ (length c ≤ i * width + j) → pair c i j ≡ false
+
+-- ---- what lies outside is not there, and writing it changes nothing
+abbrev pub ListedOutside : Type 0
+ListedOutside = (s : State) (k : Kind) (i : ℕ) → Shaped s → limit k ≤ i → listed s k i ≡ false
+
+abbrev pub ListOutside : Type 0
+ListOutside = (s : State) (k : Kind) (i : ℕ) (v : Bool) → Shaped s → limit k ≤ i → withListed s k i v ≡ s
+
+abbrev pub RelatedOutside : Type 0
+RelatedOutside = (s : State) (r : Relation) (i j : ℕ) → Shaped s → (limit (firstKind r) ≤ i) ⊎ (limit area ≤ j) → related s r i j ≡ false
+
+abbrev pub RelateOutside : Type 0
+RelateOutside = (s : State) (r : Relation) (i j : ℕ) (v : Bool) → Shaped s → (limit (firstKind r) ≤ i) ⊎ (limit area ≤ j) → withPair s r i j v ≡ s
+
+-- ---- the founding state
+-- "user 0 owns area 0", and nothing else is there
+abbrev pub FoundingListed : Type 0
+FoundingListed = (i : ℕ) → (listed founding user i ≡ eqb i 0) × (listed founding area i ≡ eqb i 0) × (listed founding object i ≡ false)
+
+abbrev pub FoundingOwner : Type 0
+FoundingOwner = (i j : ℕ) → related founding owner i j ≡ (eqb i 0 && eqb j 0)
+
+abbrev pub FoundingNoPair : Type 0
+FoundingNoPair = (r : Relation) (i j : ℕ) → (r ≡ owner → ⊥) → related founding r i j ≡ false
+
+-- ---- the shape
+-- what the type of the record says in the code
+abbrev pub ShapedByLengths : Type 0
+ShapedByLengths =
+    (s : State)
+    → length (s .users) ≡ 32 → length (s .areas) ≡ 32 → length (s .objects) ≡ 64 → length (s .owners) ≡ 1024 → length (s .definitions) ≡ 2048
+    → length (s .structure) ≡ 1024 → length (s .imports) ≡ 2048 → length (s .exports) ≡ 2048 → Shaped s
+
+abbrev pub FoundingShaped : Type 0
+FoundingShaped = Shaped founding
+
+abbrev pub ListShaped : Type 0
+ListShaped = (s : State) (k : Kind) (i : ℕ) (v : Bool) → Shaped s → Shaped (withListed s k i v)
+
+abbrev pub RelateShaped : Type 0
+RelateShaped = (s : State) (r : Relation) (i j : ℕ) (v : Bool) → Shaped s → Shaped (withPair s r i j v)
+
+-- ---- "Each state has one record": two records with equal readings are equal
+pub record SameReadings (s t : State) : Type 0 where
+  pub lists : (k : Kind) (i : ℕ) → i < limit k → listed s k i ≡ listed t k i
+  pub pairs : (r : Relation) (i j : ℕ) → i < limit (firstKind r) → j < limit area → related s r i j ≡ related t r i j
+
+abbrev pub OneRecord : Type 0
+OneRecord = (s t : State) → Shaped s → Shaped t → SameReadings s t → s ≡ t
