@@ -1,0 +1,6 @@
+-- Laws has the claims of specs/Claims.antt, for the floors above; the others are this crate's own.
+mod Reach
+mod Saturate
+mod Sets
+mod Search
+pub mod Laws
