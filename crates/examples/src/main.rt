@@ -1,0 +1,240 @@
+// Asks the access question of document 01's session and of the traps around it, and prints each answer; then the lowest mark of some bytes.
+use access::Answer;
+use libc::STDOUT_FILENO;
+use state::State;
+
+// A command is a number: its kind in the millions, x in the thousands, and y.
+const FOUNDING: u32 = 0; // case x begins in the founding state
+
+const CHAIN: u32 = 1_000_000; // case x begins with a chain through all areas
+
+const ADD_STRUCTURE: u32 = 2_000_000; // area x lies in area y
+
+const REMOVE_STRUCTURE: u32 = 3_000_000; // area x no longer lies in area y
+
+const DEFINE: u32 = 4_000_000; // object x is defined in area y
+
+const IMPORT: u32 = 5_000_000; // object x is imported by area y
+
+const EXPORT: u32 = 6_000_000; // object x is exported by area y
+
+const ASK: u32 = 7_000_000; // in how many steps has area x access to object y?
+
+const CASES: [u32; 81] = [
+    // Areas 1 and 0 lie in area 2, and area 1 defines object 9. Area 0 would import it, and nobody exports.
+    FOUNDING + 1_000,
+    ADD_STRUCTURE + 1_002,
+    ADD_STRUCTURE + 0_002,
+    DEFINE + 9_001,
+    IMPORT + 9_000,
+    ASK + 0_009,
+    // Area 1 exports, area 0 imports, and area 2 has no entry of its own: the mailbox.
+    FOUNDING + 2_000,
+    ADD_STRUCTURE + 1_002,
+    ADD_STRUCTURE + 0_002,
+    DEFINE + 9_001,
+    EXPORT + 9_001,
+    IMPORT + 9_000,
+    ASK + 0_009,
+    ASK + 1_009,
+    ASK + 2_009,
+    // Areas 1 and 2 lie in each other and import, and area 0 defines.
+    FOUNDING + 3_000,
+    ADD_STRUCTURE + 1_002,
+    ADD_STRUCTURE + 2_001,
+    DEFINE + 9_000,
+    IMPORT + 9_001,
+    IMPORT + 9_002,
+    ASK + 0_009,
+    ASK + 1_009,
+    ASK + 2_009,
+    // The same with area 1 in area 0.
+    FOUNDING + 4_000,
+    ADD_STRUCTURE + 1_002,
+    ADD_STRUCTURE + 2_001,
+    ADD_STRUCTURE + 1_000,
+    DEFINE + 9_000,
+    IMPORT + 9_001,
+    IMPORT + 9_002,
+    ASK + 1_009,
+    ASK + 2_009,
+    // Area 3 lies in area 2, which defines and exports; then area 3 imports.
+    FOUNDING + 5_000,
+    ADD_STRUCTURE + 3_002,
+    DEFINE + 9_002,
+    EXPORT + 9_002,
+    ASK + 3_009,
+    IMPORT + 9_003,
+    ASK + 3_009,
+    // Area 3 lies in area 2 and defines, and area 2 imports; then area 3 exports.
+    FOUNDING + 6_000,
+    ADD_STRUCTURE + 3_002,
+    DEFINE + 9_003,
+    IMPORT + 9_002,
+    ASK + 2_009,
+    EXPORT + 9_003,
+    ASK + 2_009,
+    // Object 9 goes outward through all areas, object 10 inward.
+    CHAIN + 7_000,
+    DEFINE + 9_000,
+    DEFINE + 10_031,
+    ASK + 0_009,
+    ASK + 15_009,
+    ASK + 31_009,
+    ASK + 31_010,
+    ASK + 0_010,
+    // The chain is cut between areas 14 and 15; then there is a shorter way, from area 0 to area 20.
+    CHAIN + 8_000,
+    DEFINE + 9_000,
+    DEFINE + 10_031,
+    REMOVE_STRUCTURE + 14_015,
+    ASK + 14_009,
+    ASK + 31_009,
+    ASK + 15_010,
+    ASK + 0_010,
+    ADD_STRUCTURE + 0_020,
+    ASK + 31_009,
+    // Areas 5 and 6 lie in themselves, import and export, and area 5 defines.
+    FOUNDING + 9_000,
+    ADD_STRUCTURE + 5_005,
+    ADD_STRUCTURE + 6_006,
+    DEFINE + 9_005,
+    IMPORT + 9_005,
+    EXPORT + 9_005,
+    IMPORT + 9_006,
+    EXPORT + 9_006,
+    ASK + 5_009,
+    ASK + 6_009,
+    // No area has the number 32 or 255, and no object 64 or 255.
+    FOUNDING + 10_000,
+    DEFINE + 9_005,
+    ASK + 32_009,
+    ASK + 255_009,
+    ASK + 5_064,
+    ASK + 5_255,
+];
+
+fn print(text: &[u8]) {
+    io::write_all(STDOUT_FILENO, text);
+}
+
+fn print_number(n: u8) {
+    io::print_decimal(STDOUT_FILENO, n as u64);
+}
+
+fn title(number: u8) {
+    match number {
+        1 => print(b"line 6 of the session\n"),
+        2 => print(b"line 8 of the session\n"),
+        3 => print(b"a cycle that vouches for itself\n"),
+        4 => print(b"the cycle tied to the defining area\n"),
+        5 => print(b"export does not go inward, import does\n"),
+        6 => print(b"import does not go outward, export does\n"),
+        7 => print(b"a chain of 31 steps, both ways\n"),
+        8 => print(b"the chain cut far away, and a shorter way\n"),
+        9 => print(b"an area in itself\n"),
+        10 => print(b"numbers past the limits\n"),
+        _ => {}
+    }
+}
+
+fn print_answer(answer: Answer) {
+    match answer {
+        Answer::Steps(n) => {
+            print(b": steps ");
+            print_number(n);
+            print(b"\n");
+        }
+        Answer::NoAccess => print(b": no access\n"),
+    }
+}
+
+fn ask(s: State, area: u8, object: u8) {
+    let answer = access::steps(
+        &s.definitions,
+        &s.structure,
+        &s.imports,
+        &s.exports,
+        area,
+        object,
+    );
+    print(b"  area ");
+    print_number(area);
+    print(b", object ");
+    print_number(object);
+    print_answer(answer);
+}
+
+// Area a lies in area a + 1, for each of them, and each exports object 9 and imports object 10.
+fn chain() -> State {
+    let mut s = State::founding();
+    for a in 0..31u8 {
+        state::put_32(&mut s.structure, a, a + 1, true);
+        state::put_64(&mut s.exports, 9, a, true);
+        state::put_64(&mut s.imports, 10, a, true);
+    }
+    s
+}
+
+// The state after one command that writes a pair.
+fn changed(s: State, kind: u32, x: u8, y: u8) -> State {
+    let mut next = s;
+    match kind {
+        ADD_STRUCTURE => state::put_32(&mut next.structure, x, y, true),
+        REMOVE_STRUCTURE => state::put_32(&mut next.structure, x, y, false),
+        DEFINE => state::put_64(&mut next.definitions, x, y, true),
+        IMPORT => state::put_64(&mut next.imports, x, y, true),
+        EXPORT => state::put_64(&mut next.exports, x, y, true),
+        _ => {}
+    }
+    next
+}
+
+// The state after one command, whatever it is.
+fn after(s: State, command: u32) -> State {
+    let x = (command / 1000 % 1000 % 256) as u8;
+    let y = (command % 1000 % 256) as u8;
+    let kind = command / 1_000_000 * 1_000_000;
+    match kind {
+        FOUNDING => {
+            title(x);
+            State::founding()
+        }
+        CHAIN => {
+            title(x);
+            chain()
+        }
+        ASK => {
+            ask(s, x, y);
+            s
+        }
+        _ => changed(s, kind, x, y),
+    }
+}
+
+fn run_cases() {
+    let cases = CASES;
+    let mut s = State::founding();
+    for i in 0..81usize {
+        let next = after(s, cases[i]);
+        s = next;
+    }
+}
+
+fn show_mark(byte: u8) {
+    print(b"  lowest mark of ");
+    print_number(byte);
+    print(b": ");
+    print_number(marks::lowest_mark(byte));
+    print(b"\n");
+}
+
+fn main() {
+    run_cases();
+    print(b"marks in a byte, 8 for none\n");
+    show_mark(0);
+    show_mark(1);
+    show_mark(96);
+    show_mark(128);
+    show_mark(255);
+}
