@@ -2,8 +2,8 @@
 ghost use mathlib.Core.Path.{_≡_};
 ghost use Prim.Native.Nat.{_<_};
 ghost use Rattle.access.specs.Lending.{lendingOf, moveBy};
-ghost use Rattle.access.specs.Answer.{longest, has, answer, countsWithin};
-ghost use Rattle.access.specs.Claims.{Right, NoChainAtAll};
+ghost use Rattle.access.specs.Answer.{longest, has, countsWithin};
+ghost use Rattle.access.specs.Claims.{Answered};
 ghost use Rattle.access.specs.Rounds.{nextTo, joinedWith, uncounted, countedAs, anyArea};
 use state::State;
 
@@ -129,9 +129,7 @@ pub fn steps<'a>(
     area: u8,
     object: u8,
 ) -> Answer
-    ensures equation { λ r. ⌜ r ≡ answer (lendingOf (now (definitions .entry)) (now (structure .entry)) (now (imports .entry)) (now (exports .entry)) object) area ⌝ }
-    ensures right { λ r. ⌜ Right (lendingOf (now (definitions .entry)) (now (structure .entry)) (now (imports .entry)) (now (exports .entry)) object) area r ⌝ }
-    ensures none_at_all { λ r. ⌜ NoChainAtAll (lendingOf (now (definitions .entry)) (now (structure .entry)) (now (imports .entry)) (now (exports .entry)) object) area r ⌝ }
+    ensures { λ r. ⌜ Answered (lendingOf (now (definitions .entry)) (now (structure .entry)) (now (imports .entry)) (now (exports .entry)) object) area r ⌝ }
 {
     if State::AREAS <= area {
         return Answer::NoAccess;

@@ -1,4 +1,4 @@
-// Asks the access question of document 01's session and of the traps around it, and prints each answer; then the lowest mark of some bytes.
+// Asks the access question of document 01's session and of the traps around it, and prints each answer.
 use access::Answer;
 use libc::STDOUT_FILENO;
 use state::State;
@@ -221,20 +221,6 @@ fn run_cases() {
     }
 }
 
-fn show_mark(byte: u8) {
-    print(b"  lowest mark of ");
-    print_number(byte);
-    print(b": ");
-    print_number(marks::lowest_mark(byte));
-    print(b"\n");
-}
-
 fn main() {
     run_cases();
-    print(b"marks in a byte, 8 for none\n");
-    show_mark(0);
-    show_mark(1);
-    show_mark(96);
-    show_mark(128);
-    show_mark(255);
 }

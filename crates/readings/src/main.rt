@@ -1,4 +1,4 @@
-// Writes to sets and relations of the founding state, and prints what is read afterwards.
+// Writes to sets and relations of the founding state, and prints what is read afterwards; then the lowest mark of some bytes.
 use libc::STDOUT_FILENO;
 use state::State;
 
@@ -16,7 +16,9 @@ fn founding() {
     tell(b"user 0 is listed", state::is_member(&s.users, 0));
     tell(b"user 1 is listed", state::is_member(&s.users, 1));
     tell(b"user 0 owns area 0", state::is_pair(&s.owners, 0, 0));
-    tell(b"user 0 owns area 1", state::is_pair(&s.owners, 0, 1));
+    let row = rows::row_of(&s.owners, 0);
+    tell(b"the row of user 0 has area 0", row[0]);
+    tell(b"the row of user 0 has area 1", row[1]);
 }
 
 // Area 40 is none, so its cell must not be that of area 8 in the next row.
@@ -44,7 +46,20 @@ fn written() {
     );
 }
 
+fn mark(byte: u8) {
+    io::write_all(STDOUT_FILENO, b"lowest mark of ");
+    io::print_decimal(STDOUT_FILENO, byte as u64);
+    io::write_all(STDOUT_FILENO, b": ");
+    io::print_decimal(STDOUT_FILENO, marks::lowest_mark(byte) as u64);
+    io::write_all(STDOUT_FILENO, b"\n");
+}
+
 fn main() {
     founding();
     written();
+    mark(0);
+    mark(1);
+    mark(96);
+    mark(128);
+    mark(255);
 }
