@@ -52,9 +52,8 @@ NoChainAtAll l a x = x ≡ NoAccess → NoChain (l .definedIn) (step l) a
 abbrev pub NoAccessIsNoChain : Type 0
 NoAccessIsNoChain = (l : Lending) (a : ℕ) → NoChainAtAll l a (answer l a)
 
--- What `steps` promises of its result: it is the computed answer, it is right, and 'no access' means that there is no chain at all.
-pub record Answered (l : Lending) (a : ℕ) (x : Answer) : Type 0 where
-  pub equation : x ≡ answer l a
+-- What `steps` promises of its result, beside the equation: the answer is right, and 'no access' means that there is no chain at all.
+pub record Meaning (l : Lending) (a : ℕ) (x : Answer) : Type 0 where
   pub right : Right l a x
   pub none-at-all : NoChainAtAll l a x
 

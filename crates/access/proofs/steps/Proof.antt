@@ -10,7 +10,7 @@ use Rattle.rows.specs.Rows.{row, transpose}
 use Rattle.state.specs.Site.{area, limit}
 use Rattle.access.specs.Lending.{Lending, step, moveBy, lendingOf}
 use Rattle.access.specs.Answer.{longest, Areas, has, answer, unreached, number, countsWithin}
-use Rattle.access.specs.Claims.{Right, NoChainAtAll, Answered}
+use Rattle.access.specs.Claims.{Right, NoChainAtAll, Meaning}
 use Rattle.access.specs.declared.Answer.{Answer}
 use Rattle.access.specs.declared.Answer.the-variants.{Steps, NoAccess}
 use Rattle.access.proofs.Reach.{chain-area}
@@ -19,9 +19,9 @@ use Rattle.access.proofs.steps.Statement.{statement}
 use Rattle.access.proofs.steps.Tie as tie
 
 -- the whole promise, from the answer that the definition gives
-answered : (l : Lending) (a : ℕ) (x : Answer) → answer l a ≡ x → Answered l a x
-answered l a x e =
-    record { equation = sym e; right = subst (Right l a) e (answer-is-right l a); none-at-all = subst (NoChainAtAll l a) e (no-access-is-no-chain l a) }
+promised : (l : Lending) (a : ℕ) (x : Answer) → answer l a ≡ x → (x ≡ answer l a) × Meaning l a x
+promised l a x e =
+    (sym e, record { right = subst (Right l a) e (answer-is-right l a); none-at-all = subst (NoChainAtAll l a) e (no-access-is-no-chain l a) })
 
 -- no chain leads past the areas
 outside : (l : Lending) (a : ℕ) → limit area ≤ a → answer l a ≡ NoAccess
@@ -59,7 +59,7 @@ count-here c h =
     count-of _ _ _ _ _ _ _ _ _ _ _ h (rows .before .transposed .ensures) (rows .row-of .ensures) (c .before .before .row-of2 .ensures) (c .before .row-of3 .ensures) (c .least-counts .ensures)
 
 returns : tie.Need-returns
-returns c = answered _ _ _ (outside _ _ (c .if1 .taken))
+returns c = promised _ _ _ (outside _ _ (c .if1 .taken))
 
 transposed-requires : tie.Need-transposed-requires
 transposed-requires c κs = tt
@@ -80,10 +80,10 @@ array-read-n : tie.Need-array-read-n
 array-read-n c = omega arith
 
 returns-2 : tie.Need-returns-2
-returns-2 c = answered _ _ _ (no-steps _ _ _ (count-here (c .before) (omega arith)) (c .if2 .taken))
+returns-2 c = promised _ _ _ (no-steps _ _ _ (count-here (c .before) (omega arith)) (c .if2 .taken))
 
 returns-3 : tie.Need-returns-3
-returns-3 c = answered _ _ _ (some-steps _ _ _ (count-here (c .before) (omega arith)) (c .if2 .left))
+returns-3 c = promised _ _ _ (some-steps _ _ _ (count-here (c .before) (omega arith)) (c .if2 .left))
 
 pub steps-spec : {M : Type 1} → statement M
 steps-spec =

@@ -16,10 +16,10 @@ enum-told : tie.Need-enum-told
 enum-told c = search needs
 
 returns : tie.Need-returns
-returns c = ap number (sym (c .before .n .given .1) ∙ c .before .before .before .steps .ensures .equation)
+returns c = ap number (sym (c .before .n .given .1) ∙ c .before .before .before .steps .ensures .0)
 
 returns-2 : tie.Need-returns-2
-returns-2 c = ap number (sym (c .enum-told .given .1) ∙ c .before .before .steps .ensures .equation)
+returns-2 c = ap number (sym (c .enum-told .given .1) ∙ c .before .before .steps .ensures .0)
 
 pub probe-steps-spec : {M : Type 1} → statement M
 probe-steps-spec = tie.close (tie.spec steps-requires enum-known-n enum-told returns returns-2)
