@@ -59,7 +59,9 @@ count-here c h =
     count-of _ _ _ _ _ _ _ _ _ _ _ h (rows .before .transposed .ensures) (rows .row-of .ensures) (c .before .before .row-of2 .ensures) (c .before .row-of3 .ensures) (c .least-counts .ensures)
 
 returns : tie.Need-returns
-returns c = promised _ _ _ (outside _ _ (c .if1 .taken))
+returns c =
+    let past : limit area ≤ c .before .before .before .before .args .area = omega arith in
+    promised _ _ _ (outside _ _ past)
 
 transposed-requires : tie.Need-transposed-requires
 transposed-requires c κs = tt
