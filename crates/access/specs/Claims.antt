@@ -30,7 +30,7 @@ RightWithin start move n a NoAccess = (m : ℕ) → m ≤ n → Chain start move
 abbrev pub AnswerWithinIsRight : Type 0
 AnswerWithinIsRight = (start : ℕ → Bool) (move : ℕ → ℕ → Bool) (n a : ℕ) → RightWithin start move n a (answerWithin start move n a)
 
--- Where there is a chain, there is one of fewer than 32 steps: each area once.
+-- Where there is a chain, there is one of fewer than 32 steps: there are 32 areas.
 abbrev pub ShortChains : Type 0
 ShortChains = (start : ℕ → Bool) (move : ℕ → ℕ → Bool) (m a : ℕ) → Chain start move m a → (n : ℕ) × (n < limit area) × Chain start move n a
 
