@@ -1,6 +1,5 @@
 -- Laws has the claims of specs/Claims.antt, for the layers above; the others are this crate's own.
 mod Reach
 mod Saturate
-mod Sets
 mod Search
 pub mod Laws

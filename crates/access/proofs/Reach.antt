@@ -4,18 +4,18 @@ use Prim.Native.Nat.{ℕ, zero, suc, _+_, _≤_, _<_, zero-le}
 use mathlib.Core.Path.{_≡_, sym, subst}
 use mathlib.Core.Logic.{_⊎_, inl, inr}
 use mathlib.Core.Bool.{Bool, true, false}
-use mathlib.Core.List.{[], _∷_}
 use native.Mathlib.Omega.{arith}
 use native.Mathlib.Decide.{decLt}
-use native.Mathlib.Nat.{le-of-suc-le-suc, not-suc-le-zero, zero-add, add-zero, add-suc, suc-add}
+use native.Mathlib.Nat.{le-of-suc-le-suc, not-suc-le-zero}
 use lib.Dec.{T}
 use lib.ListN.{List·getD-eq-default}
 use Rattle.state.specs.Tabulate.{tabulate}
 use Rattle.state.specs.Site.{area, limit}
 use Rattle.state.proofs.Tabulate.{length-tabulate, getD-tabulate}
 use Rattle.state.proofs.Bools.{or-left, or-right, or-cases}
+use Rattle.state.proofs.Walk.{some-found, some-there}
 use Rattle.access.specs.Chain.{Chain, here, onward}
-use Rattle.access.specs.Answer.{Areas, has, someFrom, someArea, spread, reached}
+use Rattle.access.specs.Answer.{has, someArea, spread, reached}
 
 -- ---- sets of areas
 pub has-tabulate : (f : ℕ → Bool) (a : ℕ) → a < limit area → has (tabulate (limit area) f) a ≡ f a
@@ -31,35 +31,6 @@ in-set f a t = go (decLt a (limit area))
 
 pub to-set : (f : ℕ → Bool) (a : ℕ) → a < limit area → T (f a) → T (has (tabulate (limit area) f) a)
 to-set f a h t = subst T (sym (has-tabulate f a h)) t
-
--- ---- some area of a set
--- what is found in the rest of a list, counted from its front
-further : (test : ℕ → Bool) (i : ℕ) (b : Bool) (l : Areas) → ((k : ℕ) × T (has l k) × T (test (suc i + k))) → (k : ℕ) × T (has (b ∷ l) k) × T (test (i + k))
-further test i b l r = (suc (r .0), r .1, rw (add-suc i (r .0)) (rw (suc-add i (r .0)) at (r .2)))
-
-from-some : (test : ℕ → Bool) (i : ℕ) (l : Areas) → T (someFrom i l test) → (k : ℕ) × T (has l k) × T (test (i + k))
-unfolding someFrom
-from-some test i [] t = absurd t
-from-some test i (true ∷ l) t = go (from-some test (suc i) l) (or-cases (test i) (someFrom (suc i) l test) t)
-  where
-    go : (T (someFrom (suc i) l test) → (k : ℕ) × T (has l k) × T (test (suc i + k))) → T (test i) ⊎ T (someFrom (suc i) l test) → (k : ℕ) × T (has (true ∷ l) k) × T (test (i + k))
-    go rest (inl h) = (zero, tt, rw (add-zero i) h)
-    go rest (inr h) = further test i true l (rest h)
-from-some test i (false ∷ l) t = further test i false l (from-some test (suc i) l t)
-
-to-some : (test : ℕ → Bool) (i : ℕ) (l : Areas) (k : ℕ) → T (has l k) → T (test (i + k)) → T (someFrom i l test)
-unfolding someFrom
-to-some test i [] k h t = absurd h
-to-some test i (true ∷ l) zero h t = or-left (test i) (someFrom (suc i) l test) (rw (add-zero i) at t)
-to-some test i (true ∷ l) (suc k) h t = or-right (test i) (someFrom (suc i) l test) (to-some test (suc i) l k h (rw (suc-add i k) (rw (add-suc i k) at t)))
-to-some test i (false ∷ l) zero h t = absurd h
-to-some test i (false ∷ l) (suc k) h t = to-some test (suc i) l k h (rw (suc-add i k) (rw (add-suc i k) at t))
-
-pub some-in : (test : ℕ → Bool) (l : Areas) → T (someArea l test) → (k : ℕ) × T (has l k) × T (test k)
-some-in test l t = let r = from-some test 0 l t in (r .0, r .1, rw (zero-add (r .0)) at (r .2))
-
-pub some-is : (test : ℕ → Bool) (l : Areas) (k : ℕ) → T (has l k) → T (test k) → T (someArea l test)
-some-is test l k h t = to-some test 0 l k h (rw (zero-add k) t)
 
 -- ---- chains
 module _ (start : ℕ → Bool) (move : ℕ → ℕ → Bool) where
@@ -81,7 +52,7 @@ module _ (start : ℕ → Bool) (move : ℕ → ℕ → Bool) where
   pub reached-next : (n s r : ℕ) → T (has (reached start move n) s) → r < limit area → T (move s r) → T (has (reached start move (suc n)) r)
   unfolding reached spread
   reached-next n s r t h m =
-      to-set _ r h (or-right (has (reached start move n) r) _ (some-is (λ q. move q r) (reached start move n) s t m))
+      to-set _ r h (or-right (has (reached start move n) r) _ (some-there (λ q. move q r) (reached start move n) s t m))
 
   -- an area that is reached in n + 1 steps was reached in n, or is one step from such an area
   pub reached-back : (n r : ℕ) → T (has (reached start move (suc n)) r) → T (has (reached start move n) r) ⊎ ((s : ℕ) × T (has (reached start move n) s) × T (move s r))
@@ -90,7 +61,7 @@ module _ (start : ℕ → Bool) (move : ℕ → ℕ → Bool) where
     where
       go : T (has (reached start move n) r) ⊎ T (someArea (reached start move n) (λ s. move s r)) → T (has (reached start move n) r) ⊎ ((s : ℕ) × T (has (reached start move n) s) × T (move s r))
       go (inl h) = inl h
-      go (inr h) = inr (some-in (λ s. move s r) (reached start move n) h)
+      go (inr h) = inr (some-found (λ s. move s r) (reached start move n) h)
 
   pub chain-of : (n a : ℕ) → T (has (reached start move n) a) → (m : ℕ) × (m ≤ n) × Chain start move m a
   unfolding reached

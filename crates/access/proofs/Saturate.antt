@@ -16,7 +16,8 @@ use Rattle.state.proofs.Bools.{or-left, or-cases, same-test}
 use Rattle.access.specs.Chain.{Chain}
 use Rattle.access.specs.Answer.{Areas, has, someArea, spread, reached}
 use Rattle.access.specs.Claims.{ShortChains}
-use Rattle.access.proofs.Reach.{some-in, reached-more, chain-of, reached-by}
+use Rattle.state.proofs.Walk.{some-found}
+use Rattle.access.proofs.Reach.{reached-more, chain-of, reached-by}
 
 -- ---- how many areas a set has
 count : Areas → ℕ
@@ -90,7 +91,7 @@ module _ (start : ℕ → Bool) (move : ℕ → ℕ → Bool) where
       back : (k : ℕ) → T (has (reached start move n) k) ⊎ T (someArea (reached start move n) (λ s. move s k)) → T (has (reached start move n) k)
       back k (inl t) = t
       back k (inr t) =
-          let some = some-in (λ s. move s k) (reached start move n) t in
+          let some = some-found (λ s. move s k) (reached start move n) t in
           absurd (omega (arith, count-some (reached start move n) (some .0) (some .1)))
 
   grown : (n : ℕ) → Stable n ⊎ (count (reached start move n) < count (reached start move (suc n)))

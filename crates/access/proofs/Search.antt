@@ -19,7 +19,8 @@ use Rattle.access.specs.Claims.{RightWithin, isSteps}
 use Rattle.access.specs.Rounds.{nextTo, uncounted, countedAs, anyArea}
 use Rattle.access.specs.declared.Answer.{Answer}
 use Rattle.access.specs.declared.Answer.the-variants.{Steps, NoAccess}
-use Rattle.access.proofs.Reach.{has-tabulate, in-set, to-set, some-in, some-is, reached-area, reached-more, reached-next, reached-back}
+use Rattle.state.proofs.Walk.{some-found, some-there}
+use Rattle.access.proofs.Reach.{has-tabulate, in-set, to-set, reached-area, reached-more, reached-next, reached-back}
 use Rattle.access.proofs.Saturate.{reached-length, Stable, stable-from}
 use Rattle.access.proofs.Laws.{reached-is-steps, answer-within-is-right, count-at}
 
@@ -75,12 +76,12 @@ module _ (start : ℕ → Bool) (move : ℕ → ℕ → Bool) where
 
       there : T (found && not near) → T (next && not near)
       there t =
-          let some = some-in (λ s. move s a) (layer n) (and-left found (not near) t) in
+          let some = some-found (λ s. move s a) (layer n) (and-left found (not near) t) in
           and-both next (not near) (reached-next start move n (some .0) a (layer-reached n (some .0) (some .1)) h (some .2)) (and-right found (not near) t)
 
       from : T (not near) → T near ⊎ ((s : ℕ) × T (has (reached start move n) s) × T (move s a)) → T found
       from far (inl t) = absurd (T-not near far t)
-      from far (inr r) = some-is (λ s. move s a) (layer n) (r .0) (in-layer n (r .0) a (r .1) h (r .2) (T-not near far)) (r .2)
+      from far (inr r) = some-there (λ s. move s a) (layer n) (r .0) (in-layer n (r .0) a (r .1) h (r .2) (T-not near far)) (r .2)
 
       back : T (next && not near) → T (found && not near)
       back t =
@@ -129,7 +130,7 @@ module _ (start : ℕ → Bool) (move : ℕ → ℕ → Bool) where
       go a t (inr far) =
           absurd
           (fails e
-          (some-is (λ b. true) (layer (suc n)) a
+          (some-there (λ b. true) (layer (suc n)) a
           (to-set _ a (reached-area start move (suc n) a t) (and-both (has (reached start move (suc n)) a) _ t (not-T (has (reached start move n) a) (fails far)))) tt))
 
   answer-stays : (n a : ℕ) → Stable start move n → answerWithin start move (suc n) a ≡ answerWithin start move n a

@@ -1,10 +1,11 @@
 -- The answer to the access question for an area and an object, as a definition that can be computed. That it is the least number of steps, or that
 -- there is no chain, is claimed in Claims.antt.
 use Prim.Native.Nat.{ℕ, zero, suc}
-use mathlib.Core.Bool.{Bool, true, false, _||_, cond}
-use mathlib.Core.List.{List, [], _∷_}
+use mathlib.Core.Bool.{Bool, false, _||_, cond}
+use mathlib.Core.List.{List}
 use lib.ListN.{getD}
 use Rattle.state.specs.Tabulate.{tabulate}
+use Rattle.state.specs.Walk.{someFrom}
 use Rattle.state.specs.Site.{area, limit}
 use Rattle.access.specs.Lending.{Lending, step}
 use Rattle.access.specs.declared.Answer.{Answer}
@@ -21,12 +22,6 @@ Areas = List Bool
 -- the area is in the set
 abbrev pub has : Areas → ℕ → Bool
 has areas a = getD areas a false
-
--- some area of the set, whose first value stands for area i, meets the test
-unfoldable pub someFrom : ℕ → Areas → (ℕ → Bool) → Bool
-someFrom i [] test = false
-someFrom i (true ∷ areas) test = test i || someFrom (suc i) areas test
-someFrom i (false ∷ areas) test = someFrom (suc i) areas test
 
 -- some area of the set meets the test
 abbrev pub someArea : Areas → (ℕ → Bool) → Bool

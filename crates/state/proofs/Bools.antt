@@ -2,7 +2,7 @@
 -- Assumes nothing.
 use mathlib.Core.Path.{_≡_, refl, sym, subst}
 use mathlib.Core.Logic.{_⊎_, inl, inr}
-use mathlib.Core.Bool.{Bool, true, false, _&&_, _||_}
+use mathlib.Core.Bool.{Bool, true, false, _&&_, _||_, not}
 use lib.Dec.{T}
 
 pub or-left : (a b : Bool) → T a → T (a || b)
@@ -53,3 +53,16 @@ same-test false false f g = refl
 pub test : (a : Bool) → T a ⊎ (a ≡ false)
 test true = inl tt
 test false = inr refl
+
+-- what is not so, and what is not not so
+pub not-so : (a : Bool) → T (not a) → T a → ⊥
+not-so true n t = n
+not-so false n t = t
+
+pub so-not : (a : Bool) → (T a → ⊥) → T (not a)
+so-not true f = f tt
+so-not false f = tt
+
+pub not-not : (a : Bool) → (T (not a) → ⊥) → T a
+not-not true f = tt
+not-not false f = f tt

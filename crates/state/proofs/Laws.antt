@@ -2,18 +2,22 @@
 -- Assumes nothing.
 use Prim.Native.Nat.{ℕ, zero, suc, _+_, _*_, _≤_, _<_, _/_, _%_}
 use mathlib.Core.Path.{_≡_, refl, sym, ap, _∙_}
-use mathlib.Core.Logic.{_⊎_, inl, inr}
-use mathlib.Core.Bool.{Bool, true, false, cond}
+use mathlib.Core.Logic.{_⊎_, inl, inr, _↔_}
+use mathlib.Core.Bool.{Bool, true, false, cond, not}
 use mathlib.Core.List.{List}
 use native.Mathlib.Omega.{arith}
+use native.Mathlib.Decide.{decLt}
 use borrow.Author.Tests.{eq-eqb, ne-eqb, eqb-true}
 use lib.Dec.{T, eqb}
 use lib.ListN.{length, getD}
 use lib.Seq.{ext-getD}
-use Rattle.state.specs.Cells.{Pairs, width, member, mark, pair, put}
+use Rattle.state.specs.Cells.{Members, Pairs, width, member, mark, pair, put}
+use Rattle.state.specs.Walk.{someMember, somePair}
 use Rattle.state.specs.Site.{Kind, user, area, object, limit, members, kindNumber, afterMark, withListed, Relation, owner, definition, structure, import, export, firstKind, cells, related, relationNumber, afterPut, withPair, empty, founding, Shaped}
 use Rattle.state.specs.Laws
 use Rattle.state.specs.declared.State.{State}
+use Rattle.state.proofs.Bools.{is-true, holds, fails, not-so, so-not, not-not}
+use Rattle.state.proofs.Walk.{some-found, some-there}
 use Rattle.state.proofs.Cells.{member-outside, mark-outside, length-mark, member-same, member-other, member-ext, pair-inside, pair-outside, pair-beyond, put-outside, put-past, length-put, pair-same, pair-other, pair-kept, pair-removed, no-member, no-pair, only-zero, only-zeros}
 
 -- ---- one of several is written
@@ -154,6 +158,64 @@ pair-past c i j (inr h) = pair-beyond c i j h
 pub related-outside : Laws.RelatedOutside
 related-outside s r i j sh (inl h) = pair-beyond (cells s r) i j (rw (sh .relations r) (omega arith))
 related-outside s r i j sh (inr h) = pair-outside (cells s r) i j h
+
+-- ---- some, or each, of what a set or a relation holds
+pub some-member : Laws.SomeMember
+unfolding someMember member
+some-member c test = (some-found test c, λ r. some-there test c (r .0) (r .1) (r .2))
+
+-- each is none that fails
+each-is : {A : Type 0} (there : A → Type 0) (test : A → Bool) (some : Bool)
+    → (T some → (x : A) × there x × T (not (test x))) → (((x : A) × there x × T (not (test x))) → T some) → T (not some) ↔ ((x : A) → there x → T (test x))
+each-is there test some found back =
+    (λ n x h. not-not (test x) (λ f. not-so some n (back (x, h, f))), λ f. so-not some (λ t. let r = found t in not-so (test (r .0)) (r .2) (f (r .0) (r .1))))
+
+pub each-member : Laws.EachMember
+each-member c test = let s = some-member c (λ i. not (test i)) in each-is (λ i. T (member c i)) test (someMember c (λ i. not (test i))) (s .0) (s .1)
+
+-- cell k is that of one pair
+cell-pair : (c : Pairs) (k : ℕ) → T (getD c k false) → T (pair c (k / width) (k % width))
+cell-pair c k t =
+    let inside : k % width < width = omega arith in
+    let place : k / width * width + k % width ≡ k = omega arith in
+    rw (pair-inside c (k / width) (k % width) inside, place) t
+
+pair-second : (c : Pairs) (i j : ℕ) → T (pair c i j) → j < width
+pair-second c i j t = go (decLt j width)
+  where
+    go : Dec (j < width) → j < width
+    go (yes h) = h
+    go (no h) = absurd (fails (pair-outside c i j (omega arith)) t)
+
+pub some-pair : Laws.SomePair
+unfolding somePair
+some-pair c test = (
+      λ t. let r = some-found _ c t in (r .0 / width, r .0 % width, cell-pair c (r .0) (r .1), r .2),
+      λ r. found (r .0) (r .1) (r .2) (r .3),
+    )
+  where
+    found : (i j : ℕ) → T (pair c i j) → T (test i j) → T (somePair c test)
+    found i j p t =
+        let h = pair-second c i j p in
+        let row : (i * width + j) / width ≡ i = omega arith in
+        let column : (i * width + j) % width ≡ j = omega arith in
+        some-there _ c (i * width + j) (rw (pair-inside c i j h) at p) (rw (row, column) t)
+
+pub each-pair : Laws.EachPair
+each-pair c test =
+    let s = some-pair c (λ i j. not (test i j)) in
+    let e = each-is {A = ℕ × ℕ} (λ p. T (pair c (p .0) (p .1))) (λ p. test (p .0) (p .1)) (somePair c (λ i j. not (test i j))) (λ t. let r = s .0 t in ((r .0, r .1), r .2, r .3)) (λ r. s .1 (r .0 .0, r .0 .1, r .1, r .2)) in
+    (λ t i j. e .0 t (i, j), λ f. e .1 (λ p. f (p .0) (p .1)))
+
+pub has-first : Laws.HasFirst
+has-first c i =
+    let s = some-pair c (λ m n. eqb m i) in
+    (λ t. let r = s .0 t in (r .1, rw (eqb-true (r .0) i (is-true (eqb (r .0) i) (r .3))) at (r .2)), λ r. s .1 (i, r .0, r .1, holds (eq-eqb i i refl)))
+
+pub has-second : Laws.HasSecond
+has-second c j =
+    let s = some-pair c (λ m n. eqb n j) in
+    (λ t. let r = s .0 t in (r .0, rw (eqb-true (r .1) j (is-true (eqb (r .1) j) (r .3))) at (r .2)), λ r. s .1 (r .0, j, r .1, holds (eq-eqb j j refl)))
 
 -- ---- the shape
 pub list-shaped : Laws.ListShaped

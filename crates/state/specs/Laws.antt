@@ -3,10 +3,11 @@
 use Prim.Native.Nat.{ℕ, _+_, _*_, _≤_, _<_}
 use mathlib.Core.Path.{_≡_}
 use mathlib.Core.Bool.{Bool, true, false, _&&_}
-use mathlib.Core.Logic.{_⊎_}
+use mathlib.Core.Logic.{_⊎_, _↔_}
 use lib.Dec.{T, eqb}
 use lib.ListN.{length, getD}
-use Rattle.state.specs.Cells.{Pairs, width, pair}
+use Rattle.state.specs.Cells.{Members, Pairs, width, member, pair}
+use Rattle.state.specs.Walk.{someMember, eachMember, somePair, eachPair, hasFirst, hasSecond}
 use Rattle.state.specs.Site.{Kind, user, area, object, limit, listed, withListed, Relation, owner, firstKind, related, withPair, founding, Shaped}
 use Rattle.state.specs.declared.State.{State}
 
@@ -49,6 +50,25 @@ PairCell = (c : Pairs) (i j : ℕ) → j < width → pair c i j ≡ getD c (i * 
 
 abbrev pub PairPast : Type 0
 PairPast = (c : Pairs) (i j : ℕ) → (width ≤ j) ⊎ (length c ≤ i * width + j) → pair c i j ≡ false
+
+-- ---- some, or each, of what a set or a relation holds
+abbrev pub SomeMember : Type 0
+SomeMember = (c : Members) (test : ℕ → Bool) → T (someMember c test) ↔ ((i : ℕ) × T (member c i) × T (test i))
+
+abbrev pub EachMember : Type 0
+EachMember = (c : Members) (test : ℕ → Bool) → T (eachMember c test) ↔ ((i : ℕ) → T (member c i) → T (test i))
+
+abbrev pub SomePair : Type 0
+SomePair = (c : Pairs) (test : ℕ → ℕ → Bool) → T (somePair c test) ↔ ((i : ℕ) × (j : ℕ) × T (pair c i j) × T (test i j))
+
+abbrev pub EachPair : Type 0
+EachPair = (c : Pairs) (test : ℕ → ℕ → Bool) → T (eachPair c test) ↔ ((i j : ℕ) → T (pair c i j) → T (test i j))
+
+abbrev pub HasFirst : Type 0
+HasFirst = (c : Pairs) (i : ℕ) → T (hasFirst c i) ↔ ((j : ℕ) × T (pair c i j))
+
+abbrev pub HasSecond : Type 0
+HasSecond = (c : Pairs) (j : ℕ) → T (hasSecond c j) ↔ ((i : ℕ) × T (pair c i j))
 
 -- ---- what lies outside is not there, and writing it changes nothing
 abbrev pub ListedOutside : Type 0

@@ -1,6 +1,7 @@
 -- What a reader of this crate believes: how a set and a relation are kept (Cells, over Tabulate), the record with its readings and updates (Site),
--- and what is claimed of them (Laws). The claims are proved in proofs/Laws.antt.
+-- tests of all that a set or a relation holds (Walk), and what is claimed of them (Laws). The claims are proved in proofs/Laws.antt.
 pub mod Tabulate
 pub mod Cells
 pub mod Site
+pub mod Walk
 pub mod Laws

@@ -1,14 +1,14 @@
 -- `access::any` meets its contract. The loop's invariant: what is found so far is whether there is an area included the first a.
 -- Assumes nothing.
 use Prim.Native.Nat.{ℕ, _+_, _-_, _≤_, _<_}
-use mathlib.Core.Path.{_≡_, refl, ap, _∙_}
+use mathlib.Core.Path.{_≡_, sym, ap, _∙_}
 use mathlib.Core.Bool.{Bool, true, false, _||_, and-true}
 use native.Mathlib.Omega.{arith}
 use lib.ListN.{length, getD, take}
 use lib.Seq.{take-all}
-use Rattle.access.specs.Answer.{Areas, someFrom}
+use Rattle.access.specs.Answer.{Areas}
 use Rattle.access.specs.Rounds.{anyArea}
-use Rattle.access.proofs.Sets.{some-take-more}
+use Rattle.state.proofs.Walk.{some-take-none, some-take-more}
 use Rattle.access.proofs.any.Statement.{statement}
 use Rattle.access.proofs.any.Tie as tie
 
@@ -27,8 +27,7 @@ long : (c : tie.Start Inv-loop μ-loop) → length (c .args .t1) ≡ 32
 long c = c .good .0 .1 .0 .1
 
 loop-holds : tie.Need-loop-holds Inv-loop μ-loop
-unfolding someFrom
-loop-holds c = (omega arith, refl)
+loop-holds c = (omega arith, sym (some-take-none (λ a. true) (c .args .t1)))
 
 array-read-found : tie.Need-array-read-found Inv-loop μ-loop
 array-read-found c = omega arith

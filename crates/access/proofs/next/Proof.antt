@@ -10,9 +10,9 @@ use lib.Seq.{take-all}
 use Rattle.state.proofs.Fill.{kept-none}
 use Rattle.state.proofs.Tabulate.{length-tabulate, getD-tabulate, tabulate-is}
 use Rattle.access.specs.Lending.{moveBy}
-use Rattle.access.specs.Answer.{Areas, has, someFrom}
+use Rattle.access.specs.Answer.{Areas, has}
 use Rattle.access.specs.Rounds.{nextTo, joinedWith}
-use Rattle.access.proofs.Sets.{some-take-more}
+use Rattle.state.proofs.Walk.{some-take-none, some-take-more}
 use Rattle.access.proofs.next.Statement.{statement}
 use Rattle.access.proofs.next.Tie as tie
 
@@ -44,8 +44,8 @@ long : (c : tie.Start Inv-loop μ-loop) → length (c .args .t1) ≡ 32
 long c = c .good .0 .1 .0 .1
 
 loop-holds : tie.Need-loop-holds Inv-loop μ-loop
-unfolding nextTo someFrom
-loop-holds c = (omega arith, tabulate-is _ 32 false (replicate 32 false) refl (λ k h. kept-none false 32 .rest k zero-le))
+unfolding nextTo
+loop-holds c = (omega arith, tabulate-is _ 32 false (replicate 32 false) refl (λ k h. kept-none false 32 .rest k zero-le ∙ sym (some-take-none _ (c .args .t1))))
 
 array-read-if1 : tie.Need-array-read-if1 Inv-loop μ-loop
 array-read-if1 c = omega arith
