@@ -1,13 +1,14 @@
 -- The claims of specs/Claims.antt, each proved under its name.
 -- Assumes nothing.
 use Prim.Native.Nat.{ℕ, zero, suc, _≤_, _<_, zero-le}
-use mathlib.Core.Path.{_≡_, refl, sym, ap, subst, fun-ext}
+use mathlib.Core.Path.{_≡_, refl, sym, ap, subst, fun-ext, _∙_}
 use mathlib.Core.Logic.{_⊎_, inl, inr}
-use mathlib.Core.Bool.{Bool, true, false, _&&_, _||_, cond}
+use mathlib.Core.Bool.{Bool, true, false, _&&_, _||_, not, cond}
 use native.Mathlib.Omega.{arith}
 use native.Mathlib.Decide.{decLt}
 use native.Mathlib.Nat.{le-antisymm}
-use lib.Dec.{T}
+use borrow.Author.Tests.{ne-eqb}
+use lib.Dec.{T, eqb}
 use lib.ListN.{getD}
 use Rattle.state.specs.Cells.{Pairs, pair}
 use Rattle.rows.specs.Rows.{row, transpose}
@@ -19,7 +20,7 @@ use Rattle.state.proofs.Tabulate.{getD-tabulate, same-table}
 use Rattle.state.proofs.Laws.{related-other, related-outside, add-keeps-pairs, remove-adds-none}
 use Rattle.access.specs.Lending.{Lending, step, moveBy, lending, lendingOf}
 use Rattle.access.specs.Chain.{Chain, here, onward, ObjectChain}
-use Rattle.access.specs.Answer.{longest, has, reached, answerWithin, nextAnswer, answer, access, number, countsWithin, leastCounts}
+use Rattle.access.specs.Answer.{longest, has, reached, answerWithin, nextAnswer, answer, access, unreached, number, countsWithin, leastCounts}
 use Rattle.access.specs.Claims
 use Rattle.access.specs.Claims.{InSteps, RightWithin, Right, isSteps, Included}
 use Rattle.access.specs.declared.Answer.{Answer}
@@ -115,6 +116,16 @@ count-at start move n a h = getD-tabulate _ (limit area) a 0 h
 pub count-is-answer : Claims.CountIsAnswer
 unfolding leastCounts answer
 count-is-answer l a h = count-at (l .definedIn) (step l) longest a h
+
+-- no number of steps is that of 'no access'
+counted : (l : Lending) (a : ℕ) (x : Answer) → Right l a x → isSteps x ≡ not (eqb (number x) unreached)
+unfolding longest
+counted l a (Steps k) r = sym (ap not (ne-eqb k unreached (λ e. omega (arith, r .short))))
+counted l a NoAccess r = refl
+
+pub access-is-count : Claims.AccessIsCount
+access-is-count l a h =
+    access-is-steps l a ∙ counted l a (answer l a) (answer-is-right l a) ∙ ap (λ (n : ℕ). not (eqb n unreached)) (sym (count-is-answer l a h))
 
 pub access-is-area : Claims.AccessIsArea
 unfolding access

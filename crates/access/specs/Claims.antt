@@ -3,8 +3,8 @@
 use Prim.Native.Nat.{ℕ, _≤_, _<_}
 use mathlib.Core.Path.{_≡_}
 use mathlib.Core.Logic.{_⊎_, _↔_}
-use mathlib.Core.Bool.{Bool, true, false}
-use lib.Dec.{T}
+use mathlib.Core.Bool.{Bool, true, false, not}
+use lib.Dec.{T, eqb}
 use lib.ListN.{getD}
 use Rattle.state.specs.Cells.{Pairs}
 use Rattle.rows.specs.Rows.{row, transpose}
@@ -12,7 +12,7 @@ use Rattle.state.specs.Site.{area, object, limit, Kind, withListed, Relation, o
 use Rattle.state.specs.declared.State.{State}
 use Rattle.access.specs.Lending.{Lending, step, moveBy, lending, lendingOf}
 use Rattle.access.specs.Chain.{Chain, Shortest, NoChain, ObjectChain}
-use Rattle.access.specs.Answer.{longest, has, answerWithin, answer, access, number, countsWithin, leastCounts}
+use Rattle.access.specs.Answer.{longest, has, answerWithin, answer, access, unreached, number, countsWithin, leastCounts}
 use Rattle.access.specs.declared.Answer.{Answer}
 use Rattle.access.specs.declared.Answer.the-variants.{Steps, NoAccess}
 
@@ -72,6 +72,10 @@ AccessIsChain = (l : Lending) (a : ℕ) → T (access l a) ↔ ((n : ℕ) × (n 
 -- the count of each area is the number of its answer
 abbrev pub CountIsAnswer : Type 0
 CountIsAnswer = (l : Lending) (a : ℕ) → a < limit area → getD (leastCounts l) a 0 ≡ number (answer l a)
+
+-- an area has access where its count is another number than that of 'no access'
+abbrev pub AccessIsCount : Type 0
+AccessIsCount = (l : Lending) (a : ℕ) → a < limit area → access l a ≡ not (eqb (getD (leastCounts l) a 0) unreached)
 
 -- what `least_counts` promises is the counts of the object, where it is handed the object's rows and the structure transposed
 abbrev pub CountsOfRows : Type 0

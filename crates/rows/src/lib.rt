@@ -1,6 +1,7 @@
-// What a search reads of a relation: the row of a number, and the relation with each pair turned round.
+// What a search reads of a relation: the row of a number, whether a row or a column holds a pair, and the relation with each pair turned round.
 ghost use mathlib.Core.Path.{_≡_};
 ghost use Prim.Native.Nat.{_-_, min};
+ghost use Rattle.state.specs.Walk.{hasFirst, hasSecond};
 ghost use Rattle.rows.specs.Rows.{row, transpose};
 
 // A relation between areas with each pair turned round.
@@ -41,4 +42,33 @@ pub fn row_of(cells: &[bool], first: u8) -> [bool; 32]
         out[j] = cells[from + j];
     }
     out
+}
+
+// Is there a pair with this first number?
+pub fn in_row(cells: &[bool], first: u8) -> bool
+    ensures { λ r. ⌜ r ≡ hasFirst (now (cells .entry)) first ⌝ }
+{
+    let row = row_of(cells, first);
+    let mut found = false;
+    for j in 0..32usize {
+        found = found | row[j];
+    }
+    found
+}
+
+// Is there a pair with this area?
+pub fn in_column(cells: &[bool], area: u8) -> bool
+    ensures { λ r. ⌜ r ≡ hasSecond (now (cells .entry)) area ⌝ }
+{
+    if 32 <= area {
+        return false;
+    }
+    let mut at = area as usize;
+    while at < cells.len() {
+        if cells[at] {
+            return true;
+        }
+        at = at + 32;
+    }
+    false
 }

@@ -1,4 +1,4 @@
--- Truth values: what `||` and `&&` say of `T`, and when two truth values are equal.
+-- Truth values: what `||`, `&&` and `not` say of `T`, and when two truth values are equal.
 -- Assumes nothing.
 use mathlib.Core.Path.{_≡_, refl, sym, subst}
 use mathlib.Core.Logic.{_⊎_, inl, inr}
@@ -66,3 +66,12 @@ so-not false f = tt
 pub not-not : (a : Bool) → (T (not a) → ⊥) → T a
 not-not true f = tt
 not-not false f = f tt
+
+-- `not a || b` says that a implies b
+pub implied : (a b : Bool) → (T a → T b) → T (not a || b)
+implied true b f = f tt
+implied false b f = tt
+
+pub implies : (a b : Bool) → T (not a || b) → T a → T b
+implies true b t s = t
+implies false b t s = absurd s

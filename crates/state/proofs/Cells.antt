@@ -39,6 +39,37 @@ pub member-ext : (c d : List Bool) → length c ≡ length d → ((i : ℕ) → 
 unfolding member
 member-ext c d e each = ext-getD false c d e each
 
+pub member-else : (c : List Bool) (i n : ℕ) (v : Bool) → (n ≡ i) ⊎ (member (mark c i v) n ≡ member c n)
+member-else c i n v = go (ℕ-discrete n i)
+  where
+    go : Dec (n ≡ i) → (n ≡ i) ⊎ (member (mark c i v) n ≡ member c n)
+    go (yes e) = inl e
+    go (no f) = inr (member-other c i n v f)
+
+-- a number of the set has its cell
+member-has-cell : (c : List Bool) (i : ℕ) → T (member c i) → i < length c
+member-has-cell c i t = go (decLt i (length c))
+  where
+    go : Dec (i < length c) → i < length c
+    go (yes h) = h
+    go (no h) = absurd (subst T (member-outside c i (omega arith)) t)
+
+pub member-kept : (c : List Bool) (i n : ℕ) → T (member c n) → T (member (mark c i true) n)
+member-kept c i n t = go (member-else c i n true)
+  where
+    go : (n ≡ i) ⊎ (member (mark c i true) n ≡ member c n) → T (member (mark c i true) n)
+    go (inl e) = rw (← e) (subst T (sym (member-same c n true (member-has-cell c n t))) tt)
+    go (inr e) = subst T (sym e) t
+
+pub member-removed : (c : List Bool) (i n : ℕ) → T (member (mark c i false) n) → T (member c n)
+member-removed c i n t = go (member-else c i n false)
+  where
+    go : (n ≡ i) ⊎ (member (mark c i false) n ≡ member c n) → T (member c n)
+    go (inl e) =
+        let h = member-has-cell (mark c i false) n t in
+        absurd (subst T (member-same c n false (rw (length-mark c i false) at h)) (rw (← e) at t))
+    go (inr e) = subst T e t
+
 -- ---- a relation
 pub pair-inside : (c : List Bool) (i j : ℕ) → j < width → pair c i j ≡ getD c (i * width + j) false
 unfolding pair
@@ -114,7 +145,7 @@ pair-has-cell c i j t = (area (decLt j width), cell (decLt (i * width + j) (leng
     cell (no h) = absurd (subst T (pair-beyond c i j (omega arith)) t)
 
 -- a pair is the written one or another
-same-or-other : (i j m n : ℕ) → ((m ≡ i) × (n ≡ j)) ⊎ (m ≡ i → n ≡ j → ⊥)
+pub same-or-other : (i j m n : ℕ) → ((m ≡ i) × (n ≡ j)) ⊎ (m ≡ i → n ≡ j → ⊥)
 same-or-other i j m n = go (ℕ-discrete m i) (ℕ-discrete n j)
   where
     go : Dec (m ≡ i) → Dec (n ≡ j) → ((m ≡ i) × (n ≡ j)) ⊎ (m ≡ i → n ≡ j → ⊥)

@@ -2,7 +2,7 @@
 -- Assumes nothing.
 use Prim.Native.Nat.{ℕ, zero, suc, _+_, _*_, _≤_, _<_, _/_, _%_}
 use mathlib.Core.Path.{_≡_, refl, sym, ap, _∙_}
-use mathlib.Core.Logic.{_⊎_, inl, inr, _↔_}
+use mathlib.Core.Logic.{_⊎_, inl, inr, ⊎-elim, _↔_}
 use mathlib.Core.Bool.{Bool, true, false, cond, not}
 use mathlib.Core.List.{List}
 use native.Mathlib.Omega.{arith}
@@ -18,7 +18,7 @@ use Rattle.state.specs.Laws
 use Rattle.state.specs.declared.State.{State}
 use Rattle.state.proofs.Bools.{is-true, holds, fails, not-so, so-not, not-not}
 use Rattle.state.proofs.Walk.{some-found, some-there}
-use Rattle.state.proofs.Cells.{member-outside, mark-outside, length-mark, member-same, member-other, member-ext, pair-inside, pair-outside, pair-beyond, put-outside, put-past, length-put, pair-same, pair-other, pair-kept, pair-removed, no-member, no-pair, only-zero, only-zeros}
+use Rattle.state.proofs.Cells.{member-outside, mark-outside, length-mark, member-same, member-other, member-else, member-kept, member-removed, member-ext, pair-inside, pair-outside, pair-beyond, put-outside, put-past, length-put, pair-same, pair-other, same-or-other, pair-kept, pair-removed, no-member, no-pair, only-zero, only-zeros}
 
 -- ---- one of several is written
 -- Things of K are told apart by a number. One of them, k, is written; this is what each, l, is afterwards.
@@ -118,6 +118,17 @@ listed-other s k i n v ne = rw (members-same s k i v) (member-other (members s k
 pub listed-other-kind : Laws.ListedOtherKind
 listed-other-kind s k l i n v ne = ap (λ (c : List Bool). member c n) (members-other s k l i v ne)
 
+pub listed-else : Laws.ListedElse
+listed-else s k l i n v =
+    each-set (λ (c : List Bool). ((l ≡ k) × (n ≡ i)) ⊎ (member c n ≡ member (members s l) n)) s k i v l
+    (λ e. ⊎-elim (λ q. inl (e, q)) inr (member-else (members s l) i n v)) (inr refl)
+
+pub list-keeps-listed : Laws.ListKeepsListed
+list-keeps-listed s k l i n = each-set (λ (c : List Bool). T (member (members s l) n) → T (member c n)) s k i true l (λ e. member-kept (members s l) i n) (λ h. h)
+
+pub unlist-adds-none : Laws.UnlistAddsNone
+unlist-adds-none s k l i n = each-set (λ (c : List Bool). T (member c n) → T (member (members s l) n)) s k i false l (λ e. member-removed (members s l) i n) (λ h. h)
+
 pub list-keeps-pairs : Laws.ListKeepsPairs
 list-keeps-pairs s k i v r m n = ap (λ (c : List Bool). pair c m n) (cells-list s k i v r)
 
@@ -139,6 +150,11 @@ related-other s r i j m n v ne = rw (cells-same s r i j v) (pair-other (cells s 
 pub related-other-relation : Laws.RelatedOtherRelation
 related-other-relation s r t i j m n v ne = ap (λ (c : List Bool). pair c m n) (cells-other s r t i j v ne)
 
+pub related-else : Laws.RelatedElse
+related-else s r t i j m n v =
+    each-relation (λ (c : Pairs). ((t ≡ r) × (m ≡ i) × (n ≡ j)) ⊎ (pair c m n ≡ related s t m n)) s r i j v t
+    (λ e. ⊎-elim (λ q. inl (e, q .0, q .1)) (λ ne. inr (pair-other (cells s t) i j m n v ne)) (same-or-other i j m n)) (inr refl)
+
 pub relate-keeps-lists : Laws.RelateKeepsLists
 relate-keeps-lists s r i j v k n = ap (λ (c : List Bool). member c n) (members-relate s r i j v k)
 
@@ -147,6 +163,10 @@ add-keeps-pairs s r t i j m n = each-relation (λ (c : Pairs). T (related s t m 
 
 pub remove-adds-none : Laws.RemoveAddsNone
 remove-adds-none s r t i j m n = each-relation (λ (c : Pairs). T (pair c m n) → T (related s t m n)) s r i j false t (λ e. pair-removed (cells s t) i j m n) (λ h. h)
+
+pub member-cell : Laws.MemberCell
+unfolding member
+member-cell c i = refl
 
 pub pair-cell : Laws.PairCell
 pair-cell c i j h = pair-inside c i j h
@@ -190,9 +210,9 @@ pair-second c i j t = go (decLt j width)
 pub some-pair : Laws.SomePair
 unfolding somePair
 some-pair c test = (
-      λ t. let r = some-found _ c t in (r .0 / width, r .0 % width, cell-pair c (r .0) (r .1), r .2),
-      λ r. found (r .0) (r .1) (r .2) (r .3),
-    )
+  λ t. let r = some-found _ c t in (r .0 / width, r .0 % width, cell-pair c (r .0) (r .1), r .2),
+  λ r. found (r .0) (r .1) (r .2) (r .3),
+)
   where
     found : (i j : ℕ) → T (pair c i j) → T (test i j) → T (somePair c test)
     found i j p t =

@@ -21,6 +21,17 @@ ListedOther = (s : State) (k : Kind) (i n : ℕ) (v : Bool) → (n ≡ i → ⊥
 abbrev pub ListedOtherKind : Type 0
 ListedOtherKind = (s : State) (k l : Kind) (i n : ℕ) (v : Bool) → (l ≡ k → ⊥) → listed (withListed s k i v) l n ≡ listed s l n
 
+-- a number is the written one, or is listed as before
+abbrev pub ListedElse : Type 0
+ListedElse = (s : State) (k l : Kind) (i n : ℕ) (v : Bool) → ((l ≡ k) × (n ≡ i)) ⊎ (listed (withListed s k i v) l n ≡ listed s l n)
+
+-- a listed number is one number more, and an unlisted one is one fewer
+abbrev pub ListKeepsListed : Type 0
+ListKeepsListed = (s : State) (k l : Kind) (i n : ℕ) → T (listed s l n) → T (listed (withListed s k i true) l n)
+
+abbrev pub UnlistAddsNone : Type 0
+UnlistAddsNone = (s : State) (k l : Kind) (i n : ℕ) → T (listed (withListed s k i false) l n) → T (listed s l n)
+
 abbrev pub ListKeepsPairs : Type 0
 ListKeepsPairs = (s : State) (k : Kind) (i : ℕ) (v : Bool) (r : Relation) (m n : ℕ) → related (withListed s k i v) r m n ≡ related s r m n
 
@@ -34,6 +45,11 @@ RelatedOther = (s : State) (r : Relation) (i j m n : ℕ) (v : Bool) → (m ≡ 
 abbrev pub RelatedOtherRelation : Type 0
 RelatedOtherRelation = (s : State) (r t : Relation) (i j m n : ℕ) (v : Bool) → (t ≡ r → ⊥) → related (withPair s r i j v) t m n ≡ related s t m n
 
+-- a pair is the written one, or is there as before
+abbrev pub RelatedElse : Type 0
+RelatedElse =
+    (s : State) (r t : Relation) (i j m n : ℕ) (v : Bool) → ((t ≡ r) × (m ≡ i) × (n ≡ j)) ⊎ (related (withPair s r i j v) t m n ≡ related s t m n)
+
 abbrev pub RelateKeepsLists : Type 0
 RelateKeepsLists = (s : State) (r : Relation) (i j : ℕ) (v : Bool) (k : Kind) (n : ℕ) → listed (withPair s r i j v) k n ≡ listed s k n
 
@@ -44,7 +60,10 @@ AddKeepsPairs = (s : State) (r t : Relation) (i j m n : ℕ) → T (related s t 
 abbrev pub RemoveAddsNone : Type 0
 RemoveAddsNone = (s : State) (r t : Relation) (i j m n : ℕ) → T (related (withPair s r i j false) t m n) → T (related s t m n)
 
--- ---- where a pair lies, for what reads a relation row by row
+-- ---- where a number or a pair lies, for what reads a set or a relation in place
+abbrev pub MemberCell : Type 0
+MemberCell = (c : Members) (i : ℕ) → member c i ≡ getD c i false
+
 abbrev pub PairCell : Type 0
 PairCell = (c : Pairs) (i j : ℕ) → j < width → pair c i j ≡ getD c (i * width + j) false
 

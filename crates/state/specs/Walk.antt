@@ -3,6 +3,7 @@
 --     someMember, eachMember     of the numbers of a set
 --     somePair, eachPair         of the pairs of a relation
 --     hasFirst, hasSecond        a pair with this first number, with this area
+--     count                      how many
 use Prim.Native.Nat.{ℕ, zero, suc, _/_, _%_}
 use mathlib.Core.Bool.{Bool, true, false, _||_, not}
 use mathlib.Core.List.{List, [], _∷_}
@@ -38,3 +39,9 @@ hasFirst cells i = somePair cells (λ m n. eqb m i)
 -- some pair's area is j
 abbrev pub hasSecond : Pairs → ℕ → Bool
 hasSecond cells j = somePair cells (λ m n. eqb n j)
+
+-- how many numbers or pairs there are
+unfoldable pub count : List Bool → ℕ
+count [] = 0
+count (true ∷ rest) = suc (count rest)
+count (false ∷ rest) = count rest

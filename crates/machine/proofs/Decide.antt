@@ -1,0 +1,77 @@
+-- The step in the order of its checks: a record that is not sound, bytes that fit no instruction, the checks of the instruction.
+-- Assumes nothing.
+use Prim.Native.Nat.{ℕ}
+use mathlib.Core.Path.{_≡_, refl, sym, ap, subst, _∙_}
+use mathlib.Core.Bool.{Bool, true, false, not, cond}
+use native.Mathlib.Omega.{arith}
+use lib.Dec.{eqb}
+use Rattle.state.specs.declared.State.{State}
+use Rattle.state.proofs.Bools.{fails}
+use Rattle.soundness.specs.Tests.{isSound}
+use Rattle.machine.specs.Instructions.{Bytes, row, Picked, unknown, instruction, instructionOf}
+use Rattle.machine.specs.Successor.{successor, successorOf}
+use Rattle.machine.specs.Refusals.{fits, inRange, firstMet, checks, decoding, refusals}
+use Rattle.machine.specs.Step.{decodedAs, decodeOf, decodedNumber, decided, refusalOf, stepOf}
+use Rattle.machine.specs.declared.Instruction.{Instruction}
+use Rattle.machine.specs.declared.Instruction.the-variants.{ListArea}
+use Rattle.machine.specs.declared.Decoded.{Decoded}
+use Rattle.machine.specs.declared.Decoded.the-variants.{Fits, NoCode, OutOfRange}
+use Rattle.machine.specs.declared.Outcome.{Outcome}
+use Rattle.machine.proofs.First.{met, passed}
+
+-- the instruction that was decoded; any, if there is none
+fitting : Decoded → Instruction
+fitting (Fits x) = x
+fitting NoCode = ListArea
+fitting OutOfRange = ListArea
+
+module _ (s : State) (bytes : Bytes) where
+  abbrev ranged : Instruction → Bool
+  ranged x = inRange (fits (row x .operand) (bytes .b)) (bytes .activator) (bytes .a)
+
+  abbrev number : Picked → ℕ
+  number p = firstMet (decoding s bytes p)
+
+  -- bytes that fit no instruction
+  first-misfit : (p : Picked) → eqb (decodedNumber (decodedAs bytes p)) 0 ≡ false → number p ≡ decodedNumber (decodedAs bytes p)
+  first-misfit unknown e = met _ _ refl
+  first-misfit (instruction x) e = go (ranged x) refl e
+    where
+      go : (v : Bool) → ranged x ≡ v → eqb (decodedNumber (cond v (Fits x) OutOfRange)) 0 ≡ false → number (instruction x) ≡ decodedNumber (cond v (Fits x) OutOfRange)
+      go true q z = absurd (fails z tt)
+      go false q z = met _ _ (ap not q)
+
+  -- bytes that fit one
+  first-fit : (x : Instruction) (p : Picked) → decodedAs bytes p ≡ Fits x → (p ≡ instruction x) × (number p ≡ firstMet (checks s x (bytes .activator) (bytes .a) (bytes .b)))
+  unfolding fitting
+  first-fit x unknown e = let no-code : _≡_ {A = ℕ} 1 0 = ap decodedNumber e in absurd (omega arith)
+  first-fit x (instruction y) e = go (ranged y) refl e
+    where
+      go : (v : Bool) → ranged y ≡ v → cond v (Fits y) OutOfRange ≡ Fits x → (instruction y ≡ instruction x) × (number (instruction y) ≡ firstMet (checks s x (bytes .activator) (bytes .a) (bytes .b)))
+      go true q f = let same : y ≡ x = ap fitting f in (ap instruction same, passed _ _ (ap not q) ∙ ap (λ (z : Instruction). firstMet (checks s z (bytes .activator) (bytes .a) (bytes .b))) same)
+      go false q f = let out : _≡_ {A = ℕ} 2 0 = ap decodedNumber f in absurd (omega arith)
+
+  -- a refusal leaves the state
+  refused : (n : ℕ) → eqb n 0 ≡ false → firstMet (refusals s bytes) ≡ n → _≡_ {A = Outcome} (record { refusal = n; state = s }) (stepOf s bytes)
+  unfolding stepOf refusalOf
+  refused n z e =
+      let t = successorOf s bytes (instructionOf (bytes .code)) in
+      ap (λ (p : Bool). record { refusal = n; state = cond p t s }) (sym z) ∙ ap (decided s t) (sym e)
+
+  pub step-unsound : not (isSound s) ≡ true → _≡_ {A = Outcome} (record { refusal = 12; state = s }) (stepOf s bytes)
+  step-unsound e = refused 12 refl (met _ _ e)
+
+  pub step-misfit : (d : Decoded) → not (isSound s) ≡ false → d ≡ decodeOf bytes → eqb (decodedNumber d) 0 ≡ false
+      → _≡_ {A = Outcome} (record { refusal = decodedNumber d; state = s }) (stepOf s bytes)
+  unfolding decodeOf
+  step-misfit d e q z =
+      refused (decodedNumber d) z
+      (passed _ _ e ∙ first-misfit (instructionOf (bytes .code)) (ap (λ (k : Decoded). eqb (decodedNumber k) 0) (sym q) ∙ z) ∙ ap decodedNumber (sym q))
+
+  pub step-fit : (x : Instruction) → not (isSound s) ≡ false → decodeOf bytes ≡ Fits x
+      → decided s (successor s x (bytes .activator) (bytes .a) (bytes .b)) (firstMet (checks s x (bytes .activator) (bytes .a) (bytes .b))) ≡ stepOf s bytes
+  unfolding decodeOf stepOf refusalOf
+  step-fit x e q =
+      let f = first-fit x (instructionOf (bytes .code)) q in
+      sym (ap (λ (n : ℕ). decided s (successorOf s bytes (instructionOf (bytes .code))) n) (passed _ _ e ∙ f .1)
+      ∙ ap (λ (p : Picked). decided s (successorOf s bytes p) (firstMet (checks s x (bytes .activator) (bytes .a) (bytes .b)))) (f .0))

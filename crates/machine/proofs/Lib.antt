@@ -1,0 +1,8 @@
+mod First
+mod Arms
+mod Parts
+mod Kept
+mod Late
+mod Decide
+pub mod Demand3
+pub mod Examples

@@ -1,0 +1,73 @@
+-- The step, the list of steps, and the access question.
+use Prim.Native.Nat.{ℕ}
+use mathlib.Core.Bool.{Bool, not, _&&_, cond}
+use mathlib.Core.List.{List, [], _∷_}
+use lib.Dec.{eqb, ltb}
+use Rattle.state.specs.Site.{area, object, limit}
+use Rattle.state.specs.declared.State.{State}
+use Rattle.access.specs.Lending.{lending}
+use Rattle.access.specs.Answer.{answer}
+use Rattle.soundness.specs.Tests.{isSound}
+use Rattle.machine.specs.Instructions.{Bytes, numberOf, lookBoth, instructionOf, row, Picked, unknown, instruction}
+use Rattle.machine.specs.Successor.{successorOf}
+use Rattle.machine.specs.Refusals.{fits, inRange, missing, Check, _when_, refusals, firstMet}
+use Rattle.machine.specs.declared.Instruction.{Instruction}
+use Rattle.machine.specs.declared.Decoded.{Decoded}
+use Rattle.machine.specs.declared.Decoded.the-variants.{Fits, NoCode, OutOfRange}
+use Rattle.machine.specs.declared.Outcome.{Outcome}
+use Rattle.machine.specs.declared.Reply.{Reply}
+use Rattle.machine.specs.declared.Reply.the-variants.{Refused, Answered}
+
+-- ---- the decoder
+-- "A code from 1 to 12 picks the kind; bytes that fit no kind are refused"
+abbrev pub rangedAs : Instruction → (fits : Bool) → (u a : ℕ) → Decoded
+rangedAs x f u a = cond (inRange f u a) (Fits x) OutOfRange
+
+abbrev pub decodedAs : Bytes → Picked → Decoded
+decodedAs bytes unknown = NoCode
+decodedAs bytes (instruction x) = rangedAs x (fits (row x .operand) (bytes .b)) (bytes .activator) (bytes .a)
+
+unfoldable pub decodeOf : Bytes → Decoded
+decodeOf bytes = decodedAs bytes (instructionOf (bytes .code))
+
+-- the paper's number for each case, 0 for bytes that fit
+abbrev pub decodedNumber : Decoded → ℕ
+decodedNumber (Fits x) = 0
+decodedNumber NoCode = 1
+decodedNumber OutOfRange = 2
+
+-- ---- the step
+-- the number of the refusal, 0 for an instruction that is accepted
+unfoldable pub refusalOf : State → Bytes → ℕ
+refusalOf s bytes = firstMet (refusals s bytes)
+
+-- the state t that an instruction gives from s if it is accepted; "The state after a refusal is the state given."
+abbrev pub decided : State → State → ℕ → Outcome
+decided s t n = record { refusal = n; state = cond (eqb n 0) t s }
+
+-- four bytes and a record, of any content: one successor state or one refusal number
+unfoldable pub stepOf : State → Bytes → Outcome
+stepOf s bytes = decided s (successorOf s bytes (instructionOf (bytes .code))) (refusalOf s bytes)
+
+-- the state after a list of instructions
+unfoldable pub run : State → List Bytes → State
+run s [] = s
+run s (bytes ∷ rest) = run (stepOf s bytes .state) rest
+
+-- ---- the access question
+-- "Refusals 12, 2, 4 apply in that order, with the same conditions for a and b."
+abbrev pub questionRefusals : State → (a b : ℕ) → List Check
+questionRefusals s a b =
+    (12 when not (isSound s)) ∷ (2 when not (ltb a (limit area) && fits (numberOf object) b)) ∷ (4 when missing s (lookBoth object) a b) ∷ []
+
+-- the answer, or the refusal with its number
+abbrev pub replied : State → (a b n : ℕ) → Reply
+replied s a b n = cond (eqb n 0) (Answered (answer (lending s b) a)) (Refused n)
+
+unfoldable pub replyOf : State → (a b : ℕ) → Reply
+replyOf s a b = replied s a b (firstMet (questionRefusals s a b))
+
+-- the paper's number for each case, 0 for an answer; the answer's own value is `number` of access
+abbrev pub replyNumber : Reply → ℕ
+replyNumber (Refused n) = n
+replyNumber (Answered x) = 0

@@ -1,0 +1,416 @@
+// The machine: any four bytes with any record get one successor state or one refusal number.
+ghost use mathlib.Core.Path.{_≡_};
+ghost use mathlib.Core.Bool.{_&&_, not};
+ghost use Rattle.access.specs.Lending.{lending};
+ghost use Rattle.access.specs.Answer.{access};
+ghost use Rattle.machine.specs.Instructions.{fourBytes, row};
+ghost use Rattle.machine.specs.Successor.{withoutOwner, successor};
+ghost use Rattle.machine.specs.Refusals.{missingBy, entitledBy, presentBy, absentBy, firstMet, checks};
+ghost use Rattle.machine.specs.Parts.{early, late, namesArea};
+ghost use Rattle.machine.specs.declared.Instruction.the-variants.{UnlistArea};
+ghost use Rattle.machine.specs.Step.{rangedAs, decodeOf, decodedNumber, decided, stepOf, questionRefusals, replyOf, replyNumber};
+use access::Answer;
+use state::State;
+
+// The twelve instructions.
+pub enum Instruction {
+    ListArea,
+    UnlistArea,
+    AddOwner,
+    RemoveOwner,
+    AddStructure,
+    RemoveStructure,
+    Define,
+    RemoveDefinition,
+    AddImport,
+    RemoveImport,
+    AddExport,
+    RemoveExport,
+}
+
+// The instruction that four bytes fit, or that they fit none: the refusal 1 or 2.
+pub enum Decoded {
+    Fits(Instruction),
+    NoCode,
+    OutOfRange,
+}
+
+// The refusal, 0 for none, and the state after the instruction.
+pub struct Outcome {
+    pub refusal: u8,
+    pub state: State,
+}
+
+// The answer to the access question, or its refusal.
+pub enum Reply {
+    Refused(u8),
+    Answered(Answer),
+}
+
+// The instruction, if its numbers are in range: `fits` says so of b.
+fn in_range(x: Instruction, fits: bool, activator: u8, a: u8) -> Decoded
+    ensures { λ r. ⌜ r ≡ rangedAs x fits activator a ⌝ }
+{
+    if (activator < State::USERS) & (a < State::AREAS) & fits {
+        Decoded::Fits(x)
+    } else {
+        Decoded::OutOfRange
+    }
+}
+
+// What four bytes fit. No list is looked at.
+pub fn decode(code: u8, activator: u8, a: u8, b: u8) -> Decoded
+    ensures { λ r. ⌜ r ≡ decodeOf (fourBytes code activator a b) ⌝ }
+{
+    let user = b < State::USERS;
+    let area = b < State::AREAS;
+    let object = b < State::OBJECTS;
+    match code {
+        1 => in_range(Instruction::ListArea, b == 0, activator, a),
+        2 => in_range(Instruction::UnlistArea, b == 0, activator, a),
+        3 => in_range(Instruction::AddOwner, user, activator, a),
+        4 => in_range(Instruction::RemoveOwner, user, activator, a),
+        5 => in_range(Instruction::AddStructure, area, activator, a),
+        6 => in_range(Instruction::RemoveStructure, area, activator, a),
+        7 => in_range(Instruction::Define, object, activator, a),
+        8 => in_range(Instruction::RemoveDefinition, object, activator, a),
+        9 => in_range(Instruction::AddImport, object, activator, a),
+        10 => in_range(Instruction::RemoveImport, object, activator, a),
+        11 => in_range(Instruction::AddExport, object, activator, a),
+        12 => in_range(Instruction::RemoveExport, object, activator, a),
+        0 | 13..=255 => Decoded::NoCode,
+    }
+}
+
+// The refusal of what was decoded, 0 if it fits.
+fn misfit(decoded: Decoded) -> u8
+    ensures { λ r. ⌜ r ≡ decodedNumber decoded ⌝ }
+{
+    match decoded {
+        Decoded::Fits(_) => 0,
+        Decoded::NoCode => 1,
+        Decoded::OutOfRange => 2,
+    }
+}
+
+// Refusal 4: something that the instruction names is not listed. `area` says that area a is; `user`, `outer` and `object` that b is too, as a user, an area or
+// an object.
+fn is_missing(x: Instruction, area: bool, user: bool, outer: bool, object: bool) -> bool
+    ensures { λ r. ⌜ r ≡ missingBy (row x .lookup) area user outer object ⌝ }
+{
+    match x {
+        Instruction::ListArea => false,
+        Instruction::UnlistArea => !area,
+        Instruction::AddOwner => !area,
+        Instruction::RemoveOwner => !user,
+        Instruction::AddStructure => !outer,
+        Instruction::RemoveStructure => !outer,
+        Instruction::Define => !area,
+        Instruction::RemoveDefinition => !object,
+        Instruction::AddImport => !object,
+        Instruction::RemoveImport => !object,
+        Instruction::AddExport => !object,
+        Instruction::RemoveExport => !object,
+    }
+}
+
+// Has the activator the ownership that the instruction asks for? He owns area a, or both areas, or may cut the pair.
+fn is_entitled(x: Instruction, own: bool, both: bool, cut: bool) -> bool
+    ensures { λ r. ⌜ r ≡ entitledBy (row x .mustOwn) own both cut ⌝ }
+{
+    match x {
+        Instruction::ListArea => true,
+        Instruction::UnlistArea => own,
+        Instruction::AddOwner => own,
+        Instruction::RemoveOwner => own,
+        Instruction::AddStructure => both,
+        Instruction::RemoveStructure => cut,
+        Instruction::Define => own,
+        Instruction::RemoveDefinition => own,
+        Instruction::AddImport => own,
+        Instruction::RemoveImport => own,
+        Instruction::AddExport => own,
+        Instruction::RemoveExport => own,
+    }
+}
+
+// Refusal 6: an add of what is there.
+fn is_repeated(
+    x: Instruction,
+    area: bool,
+    object: bool,
+    owned: bool,
+    inside: bool,
+    imported: bool,
+    exported: bool,
+) -> bool
+    ensures { λ r. ⌜ r ≡ (row x .adds && presentBy (row x .target) area object owned inside imported exported) ⌝ }
+{
+    match x {
+        Instruction::ListArea => area,
+        Instruction::UnlistArea => false,
+        Instruction::AddOwner => owned,
+        Instruction::RemoveOwner => false,
+        Instruction::AddStructure => inside,
+        Instruction::RemoveStructure => false,
+        Instruction::Define => object,
+        Instruction::RemoveDefinition => false,
+        Instruction::AddImport => imported,
+        Instruction::RemoveImport => false,
+        Instruction::AddExport => exported,
+        Instruction::RemoveExport => false,
+    }
+}
+
+// Refusal 7: a remove of a pair that is not there.
+fn is_absent(
+    x: Instruction,
+    owned: bool,
+    defined: bool,
+    inside: bool,
+    imported: bool,
+    exported: bool,
+) -> bool
+    ensures { λ r. ⌜ r ≡ (not (row x .adds) && absentBy (row x .target) owned defined inside imported exported) ⌝ }
+{
+    match x {
+        Instruction::ListArea => false,
+        Instruction::UnlistArea => false,
+        Instruction::AddOwner => false,
+        Instruction::RemoveOwner => !owned,
+        Instruction::AddStructure => false,
+        Instruction::RemoveStructure => !inside,
+        Instruction::Define => false,
+        Instruction::RemoveDefinition => !defined,
+        Instruction::AddImport => false,
+        Instruction::RemoveImport => !imported,
+        Instruction::AddExport => false,
+        Instruction::RemoveExport => !exported,
+    }
+}
+
+// The state without the owner pair (user, area): the user is unlisted if that was his last.
+fn without_owner(s: State, user: u8, area: u8) -> State
+    ensures { λ r. ⌜ r ≡ withoutOwner s user area ⌝ }
+{
+    let mut next = s;
+    state::put_32(&mut next.owners, user, area, false);
+    let keeps = state::is_member(&next.users, user) & rows::in_row(&next.owners, user);
+    state::mark_32(&mut next.users, user, keeps);
+    next
+}
+
+// The state that the instruction would give.
+fn successor(s: State, x: Instruction, u: u8, a: u8, b: u8) -> State
+    ensures { λ r. ⌜ r ≡ successor s x u a b ⌝ }
+{
+    let mut next = s;
+    match x {
+        Instruction::ListArea => {
+            state::mark_32(&mut next.areas, a, true);
+            state::put_32(&mut next.owners, u, a, true);
+        }
+        Instruction::UnlistArea => {
+            let less = without_owner(s, u, a);
+            next = less;
+            state::mark_32(&mut next.areas, a, false);
+        }
+        Instruction::AddOwner => {
+            state::mark_32(&mut next.users, b, true);
+            state::put_32(&mut next.owners, b, a, true);
+        }
+        Instruction::RemoveOwner => {
+            let less = without_owner(s, b, a);
+            next = less;
+        }
+        Instruction::AddStructure => state::put_32(&mut next.structure, a, b, true),
+        Instruction::RemoveStructure => state::put_32(&mut next.structure, a, b, false),
+        Instruction::Define => {
+            state::mark_64(&mut next.objects, b, true);
+            state::put_64(&mut next.definitions, b, a, true);
+        }
+        Instruction::RemoveDefinition => {
+            state::mark_64(&mut next.objects, b, false);
+            state::put_64(&mut next.definitions, b, a, false);
+        }
+        Instruction::AddImport => state::put_64(&mut next.imports, b, a, true),
+        Instruction::RemoveImport => state::put_64(&mut next.imports, b, a, false),
+        Instruction::AddExport => state::put_64(&mut next.exports, b, a, true),
+        Instruction::RemoveExport => state::put_64(&mut next.exports, b, a, false),
+    }
+    next
+}
+
+// The refusal of an instruction from 3 to 7, 0 if there is none of these.
+fn early_refusal(s: State, x: Instruction, u: u8, a: u8, b: u8) -> u8
+    ensures { λ r. ⌜ r ≡ firstMet (early s x u a b) ⌝ }
+{
+    if !state::is_member(&s.users, u) {
+        return 3;
+    }
+    let area = state::is_member(&s.areas, a);
+    let user = area & state::is_member(&s.users, b);
+    let outer = area & state::is_member(&s.areas, b);
+    let listed = state::is_member(&s.objects, b);
+    let object = area & listed;
+    if is_missing(x, area, user, outer, object) {
+        return 4;
+    }
+    let own = state::is_pair(&s.owners, u, a);
+    let other = state::is_pair(&s.owners, u, b);
+    if !is_entitled(x, own, own & other, own | other) {
+        return 5;
+    }
+    let owned = state::is_pair(&s.owners, b, a);
+    let inside = state::is_pair(&s.structure, a, b);
+    let imported = state::is_pair(&s.imports, b, a);
+    let exported = state::is_pair(&s.exports, b, a);
+    if is_repeated(x, area, listed, owned, inside, imported, exported) {
+        return 6;
+    }
+    let defined = state::is_pair(&s.definitions, b, a);
+    if is_absent(x, owned, defined, inside, imported, exported) {
+        return 7;
+    }
+    0
+}
+
+// Is there a pair that names the area?
+fn names_area<'a>(
+    owners: &'a [bool],
+    definitions: &'a [bool],
+    structure: &'a [bool],
+    imports: &'a [bool],
+    exports: &'a [bool],
+    area: u8,
+) -> bool
+    ensures { λ r. ⌜ r ≡ namesArea (now (owners .entry)) (now (definitions .entry)) (now (structure .entry)) (now (imports .entry)) (now (exports .entry)) area ⌝ }
+{
+    rows::in_column(owners, area)
+        | rows::in_column(definitions, area)
+        | rows::in_row(structure, area)
+        | rows::in_column(structure, area)
+        | rows::in_column(imports, area)
+        | rows::in_column(exports, area)
+}
+
+// Has the area access to the object?
+fn has_access(s: State, area: u8, object: u8) -> bool
+    ensures { λ r. ⌜ r ≡ access (lending s object) area ⌝ }
+{
+    match access::steps(
+        &s.definitions,
+        &s.structure,
+        &s.imports,
+        &s.exports,
+        area,
+        object,
+    ) {
+        Answer::Steps(_) => true,
+        Answer::NoAccess => false,
+    }
+}
+
+// The refusal of an area's unlisting, of the state t that it would give: 8 if no area is left, 9 if a pair still names the area.
+fn unlist_refusal(t: State, a: u8) -> u8
+    ensures { λ r. ⌜ r ≡ firstMet (late t UnlistArea a 0) ⌝ }
+{
+    if !soundness::has_member(&t.areas) {
+        return 8;
+    }
+    if names_area(
+        &t.owners,
+        &t.definitions,
+        &t.structure,
+        &t.imports,
+        &t.exports,
+        a,
+    ) {
+        return 9;
+    }
+    0
+}
+
+// The refusal of an instruction from 8 to 11, of the state t that it would give; 0 if there is none of these.
+fn late_refusal(t: State, x: Instruction, a: u8, b: u8) -> u8
+    ensures { λ r. ⌜ r ≡ firstMet (late t x a b) ⌝ }
+{
+    match x {
+        Instruction::UnlistArea => unlist_refusal(t, a),
+        Instruction::RemoveOwner => { if rows::in_column(&t.owners, a) { 0 } else { 8 } }
+        Instruction::AddImport | Instruction::AddExport => {
+            if has_access(t, a, b) { 0 } else { 10 }
+        }
+        Instruction::RemoveStructure
+        | Instruction::RemoveDefinition
+        | Instruction::RemoveImport
+        | Instruction::RemoveExport => { if soundness::is_valid(t) { 0 } else { 11 } }
+        Instruction::ListArea
+        | Instruction::AddOwner
+        | Instruction::AddStructure
+        | Instruction::Define => 0,
+    }
+}
+
+// What an instruction gives in a sound state.
+fn judged(s: State, x: Instruction, u: u8, a: u8, b: u8) -> Outcome
+    ensures { λ r. ⌜ r ≡ decided s (successor s x u a b) (firstMet (checks s x u a b)) ⌝ }
+{
+    let early = early_refusal(s, x, u, a, b);
+    if early != 0 {
+        return Outcome {
+            refusal: early,
+            state: s,
+        };
+    }
+    let next = successor(s, x, u, a, b);
+    let late = late_refusal(next, x, a, b);
+    if late != 0 {
+        return Outcome {
+            refusal: late,
+            state: s,
+        };
+    }
+    Outcome {
+        refusal: 0,
+        state: next,
+    }
+}
+
+// What four bytes give with a record, both of any content.
+pub fn step(s: State, code: u8, activator: u8, a: u8, b: u8) -> Outcome
+    ensures { λ r. ⌜ r ≡ stepOf s (fourBytes code activator a b) ⌝ }
+{
+    if !soundness::is_sound(s) {
+        return Outcome {
+            refusal: 12,
+            state: s,
+        };
+    }
+    let decoded = decode(code, activator, a, b);
+    let Decoded::Fits(x) = decoded else {
+        let refusal = misfit(decoded);
+        return Outcome {
+            refusal: refusal,
+            state: s,
+        };
+    };
+    judged(s, x, activator, a, b)
+}
+
+// In how many steps has area a access to object b? Any record, and any numbers.
+pub fn ask(s: State, a: u8, b: u8) -> Reply
+    ensures equation { λ r. ⌜ r ≡ replyOf s a b ⌝ }
+    ensures number { λ r. ⌜ replyNumber r ≡ firstMet (questionRefusals s a b) ⌝ }
+{
+    if !soundness::is_sound(s) {
+        return Reply::Refused(12);
+    }
+    if !((a < State::AREAS) & (b < State::OBJECTS)) {
+        return Reply::Refused(2);
+    }
+    if !(state::is_member(&s.areas, a) & state::is_member(&s.objects, b)) {
+        return Reply::Refused(4);
+    }
+    Reply::Answered(access::steps(&s.definitions, &s.structure, &s.imports, &s.exports, a, b))
+}

@@ -1,0 +1,130 @@
+-- `eachBelow` and `countBelow`: one number more, for a loop, and what they say.
+--     each-none, each-more, each-goes     before the first turn, one turn more, and one more that meets the test
+--     each-at, each-by                    each number meets the test
+--     each-stop, each-done                a number that does not, and none left
+--     count-none, count-more              before the first turn, and one turn more
+--     count-one, one-counted              a count of one is exactly one number
+-- Assumes nothing.
+use Prim.Native.Nat.{ℕ, zero, suc, _+_, _≤_, _<_}
+use mathlib.Core.Path.{_≡_, refl, sym, ap, ap₂, subst, _∙_}
+use mathlib.Core.Logic.{_⊎_, inl, inr}
+use mathlib.Core.Bool.{Bool, true, false, _&&_, cond}
+use native.Mathlib.Nat.{not-suc-le-zero}
+use native.Mathlib.Numerals.{add-one}
+use native.Mathlib.Omega.{arith}
+use native.Mathlib.Decide.{ℕ-discrete}
+use lib.Dec.{T}
+use Rattle.state.proofs.Bools.{and-both, and-left, and-right, is-true, is-false, fails, test}
+use Rattle.soundness.specs.Rows.{eachBelow, countBelow}
+
+module _ (f : ℕ → Bool) where
+  pub each-none : eachBelow 0 f ≡ true
+  unfolding eachBelow
+  each-none = refl
+
+  pub each-more : (n : ℕ) → eachBelow (n + 1) f ≡ eachBelow n f && f n
+  unfolding eachBelow
+  each-more n = rw (add-one n) refl
+
+  -- a loop that carries the test along
+  pub each-step : (n : ℕ) (fits : Bool) (new : Bool) → fits ≡ eachBelow n f → new ≡ f n → fits && new ≡ eachBelow (n + 1) f
+  each-step n fits new e h = ap₂ _&&_ e h ∙ sym (each-more n)
+
+  pub each-end : (n k : ℕ) (fits : Bool) → k ≡ n → fits ≡ eachBelow k f → fits ≡ eachBelow n f
+  each-end n k fits same e = e ∙ ap (λ (m : ℕ). eachBelow m f) same
+
+  -- a loop that stops where the test fails
+  pub each-goes : (n : ℕ) → eachBelow n f ≡ true → f n ≡ true → eachBelow (n + 1) f ≡ true
+  each-goes n e h = each-more n ∙ ap₂ _&&_ e h
+
+  pub each-at : (n : ℕ) → T (eachBelow n f) → (k : ℕ) → k < n → T (f k)
+  unfolding eachBelow
+  each-at zero t k h = absurd (not-suc-le-zero h)
+  each-at (suc n) t k h = go (each-at n (and-left (eachBelow n f) (f n) t) k) (ℕ-discrete k n)
+    where
+      go : (k < n → T (f k)) → Dec (k ≡ n) → T (f k)
+      go before (yes e) = rw e (and-right (eachBelow n f) (f n) t)
+      go before (no ne) = before (omega arith)
+
+  pub each-by : (n : ℕ) → ((k : ℕ) → k < n → T (f k)) → T (eachBelow n f)
+  unfolding eachBelow
+  each-by zero each = tt
+  each-by (suc n) each = and-both (eachBelow n f) (f n) (each-by n (λ k h. each k (omega arith))) (each n (omega arith))
+
+  pub each-stop : (n k : ℕ) → k < n → f k ≡ false → false ≡ eachBelow n f
+  each-stop n k h e = sym (is-false (eachBelow n f) (λ t. fails e (each-at n t k h)))
+
+  pub each-done : (n k : ℕ) → k ≤ n → n ≤ k → eachBelow k f ≡ true → true ≡ eachBelow n f
+  each-done n k below above e = let same : k ≡ n = omega arith in sym (subst (λ (m : ℕ). eachBelow m f ≡ true) same e)
+
+  pub count-none : countBelow 0 f ≡ 0
+  unfolding countBelow
+  count-none = refl
+
+  pub count-more : (n : ℕ) → countBelow (n + 1) f ≡ countBelow n f + cond (f n) 1 0
+  unfolding countBelow
+  count-more n = rw (add-one n) refl
+
+  -- exactly one number below n meets the test
+  pub record Single (n : ℕ) : Type 0 where
+    pub place : ℕ
+    pub below : place < n
+    pub met : T (f place)
+    pub only : (k : ℕ) → k < n → T (f k) → k ≡ place
+
+  -- one number more: it meets the test, or it does not
+  next-met : (n : ℕ) → T (f n) → countBelow (suc n) f ≡ suc (countBelow n f)
+  unfolding countBelow
+  next-met n t = rw (is-true (f n) t) (add-one (countBelow n f))
+
+  next-not : (n : ℕ) → f n ≡ false → countBelow (suc n) f ≡ countBelow n f
+  unfolding countBelow
+  next-not n e = rw e (omega arith)
+
+  none-counted : (n : ℕ) → countBelow n f ≡ 0 → (k : ℕ) → k < n → T (f k) → ⊥
+  none-counted zero e k h t = not-suc-le-zero h
+  none-counted (suc n) e k h t = go (none-counted n) (test (f n)) (ℕ-discrete k n)
+    where
+      go : (countBelow n f ≡ 0 → (k : ℕ) → k < n → T (f k) → ⊥) → T (f n) ⊎ (f n ≡ false) → Dec (k ≡ n) → ⊥
+      go before (inl m) q = omega (arith, next-met n m)
+      go before (inr q) (yes same) = fails q (rw same at t)
+      go before (inr q) (no other) = before (sym (next-not n q) ∙ e) k (omega arith) t
+
+  count-zero : (n : ℕ) → ((k : ℕ) → k < n → T (f k) → ⊥) → countBelow n f ≡ 0
+  count-zero zero none = count-none
+  count-zero (suc n) none = next-not n (is-false (f n) (none n (omega arith))) ∙ count-zero n (λ k h. none k (omega arith))
+
+  pub count-one : (n : ℕ) → countBelow n f ≡ 1 → Single n
+  count-one zero e = absurd (omega (arith, count-none))
+  count-one (suc n) e = go (count-one n) (test (f n))
+    where
+      last : T (f n) → countBelow n f ≡ 0 → (k : ℕ) → k < suc n → T (f k) → Dec (k ≡ n) → k ≡ n
+      last m z k h t (yes q) = q
+      last m z k h t (no q) = absurd (none-counted n z k (omega arith) t)
+
+      before : f n ≡ false → (s : Single n) → (k : ℕ) → k < suc n → T (f k) → Dec (k ≡ n) → k ≡ s .place
+      before q s k h t (yes same) = absurd (fails q (rw same at t))
+      before q s k h t (no other) = s .only k (omega arith) t
+
+      go : (countBelow n f ≡ 1 → Single n) → T (f n) ⊎ (f n ≡ false) → Single (suc n)
+      go rest (inl m) =
+          let z : countBelow n f ≡ 0 = omega (arith, next-met n m) in
+          record { place = n; below = omega arith; met = m; only = λ k h t. last m z k h t (ℕ-discrete k n) }
+      go rest (inr q) =
+          let s = rest (sym (next-not n q) ∙ e) in
+          let b : s .place < n = s .below in
+          record { place = s .place; below = omega arith; met = s .met; only = λ k h t. before q s k h t (ℕ-discrete k n) }
+
+  pub one-counted : (n : ℕ) → Single n → countBelow n f ≡ 1
+  one-counted zero s = absurd (not-suc-le-zero (s .below))
+  one-counted (suc n) s = go (one-counted n) (test (f n))
+    where
+      go : (Single n → countBelow n f ≡ 1) → T (f n) ⊎ (f n ≡ false) → countBelow (suc n) f ≡ 1
+      go rest (inl m) =
+          let here : n ≡ s .place = s .only n (omega arith) m in
+          next-met n m ∙ ap suc (count-zero n (λ k h t. let at : k ≡ s .place = s .only k (omega arith) t in omega arith))
+      go rest (inr q) = next-not n q ∙ rest (record { place = s .place; below = earlier (ℕ-discrete (s .place) n); met = s .met; only = λ k h. s .only k (omega arith) })
+        where
+          earlier : Dec (s .place ≡ n) → s .place < n
+          earlier (yes e) = absurd (fails q (rw e at (s .met)))
+          earlier (no ne) = let b : s .place < suc n = s .below in omega arith

@@ -1,0 +1,231 @@
+-- The claims of specs/Claims.antt, each proved under its name, and what the tests over lists decide.
+--     named-decided, once-decided     what a relation's pairs name is listed; there is exactly one pair
+-- Assumes nothing.
+use Prim.Native.Nat.{ℕ}
+use mathlib.Core.Path.{_≡_, refl, sym, subst}
+use mathlib.Core.Logic.{_↔_}
+use mathlib.Core.Bool.{Bool, true, false, _&&_, _||_, not}
+use native.Mathlib.Omega.{arith}
+use borrow.Author.Tests.{eqb-true, eq-eqb}
+use lib.Dec.{T, eqb}
+use Rattle.state.specs.Cells.{Members, Pairs, member, pair}
+use Rattle.state.specs.Walk.{eachPair, hasFirst, hasSecond}
+use Rattle.state.specs.Site.{user, area, object, Relation, owner, definition, structure, import, export, members, cells, firstKind, listed, related, owns, founding}
+use Rattle.state.specs.declared.State.{State}
+use Rattle.state.proofs.Bools.{and-both, and-left, and-right, is-true, holds, fails, implied, implies}
+use Rattle.state.proofs.Laws.{some-member, each-member, some-pair, each-pair, has-first, has-second, founding-listed, founding-owner, founding-no-pair, founding-shaped}
+use Rattle.access.specs.Lending.{lending}
+use Rattle.access.specs.Answer.{access}
+use Rattle.soundness.specs.Sound.{Named, Consistent, Acceptable}
+use Rattle.soundness.specs.Tests.{named, isConsistent, allOwn, allOwned, once, allDefined, isAcceptable, someListed, validOf, isValid, isSound}
+use Rattle.soundness.specs.Claims
+
+-- ---- valid
+pub valid-decided : Claims.ValidDecided
+unfolding validOf
+valid-decided s =
+    let fits : ℕ → ℕ → Bool = λ o a. access (lending s o) a in
+    let im = each-pair (s .imports) fits in
+    let ex = each-pair (s .exports) fits in
+    let a = eachPair (s .imports) fits in
+    let b = eachPair (s .exports) fits in
+    (λ t. record { imported = im .0 (and-left a b t); exported = ex .0 (and-right a b t) }, λ v. and-both a b (im .1 (v .imported)) (ex .1 (v .exported)))
+
+-- ---- consistent
+pub named-decided : (pairs : Pairs) (firsts areas : Members) → T (named pairs firsts areas) ↔ ((i j : ℕ) → T (pair pairs i j) → T (member firsts i) × T (member areas j))
+unfolding named
+named-decided pairs firsts areas =
+    let e = each-pair pairs (λ i j. member firsts i && member areas j) in (
+      λ t i j p. let b = e .0 t i j p in (and-left (member firsts i) (member areas j) b, and-right (member firsts i) (member areas j) b),
+      λ f. e .1 (λ i j p. let r = f i j p in and-both (member firsts i) (member areas j) (r .0) (r .1)),
+    )
+
+-- what the pairs of one relation name is listed
+namedIn : State → Relation → Bool
+namedIn s r = named (cells s r) (members s (firstKind r)) (s .areas)
+
+relation-decided : (s : State) (r : Relation) → T (namedIn s r) ↔ ((i j : ℕ) → T (related s r i j) → Named s r i j)
+unfolding namedIn
+relation-decided s r =
+    let e = named-decided (cells s r) (members s (firstKind r)) (s .areas) in
+    (λ t i j p. let n = e .0 t i j p in record { first = n .0; second = n .1 }, λ f. e .1 (λ i j p. let n = f i j p in (n .first, n .second)))
+
+-- one test for each relation
+each-relation : (f : Relation → Bool) → T (f owner && f definition && f structure && f import && f export) ↔ ((r : Relation) → T (f r))
+each-relation f = (there, λ e. and-both four (f export) (and-both three (f import) (and-both two (f structure) (and-both (f owner) (f definition) (e owner) (e definition)) (e structure)) (e import)) (e export))
+  where
+    two : Bool
+    two = f owner && f definition
+
+    three : Bool
+    three = two && f structure
+
+    four : Bool
+    four = three && f import
+
+    there : T (four && f export) → (r : Relation) → T (f r)
+    there t owner = and-left (f owner) (f definition) (and-left two (f structure) (and-left three (f import) (and-left four (f export) t)))
+    there t definition = and-right (f owner) (f definition) (and-left two (f structure) (and-left three (f import) (and-left four (f export) t)))
+    there t structure = and-right two (f structure) (and-left three (f import) (and-left four (f export) t))
+    there t import = and-right three (f import) (and-left four (f export) t)
+    there t export = and-right four (f export) t
+
+consistent-decided : (s : State) → T (isConsistent s) ↔ Consistent s
+unfolding isConsistent namedIn
+consistent-decided s =
+    let e = each-relation (namedIn s) in
+    (λ t r. relation-decided s r .0 (e .0 t r), λ c. e .1 (λ r. relation-decided s r .1 (c r)))
+
+-- ---- acceptable
+-- there is exactly one pair with the first number i, and a is its area
+pub record Once (pairs : Pairs) (i : ℕ) : Type 0 where
+  pub place : ℕ
+  pub there : T (pair pairs i place)
+  pub only : (b : ℕ) → T (pair pairs i b) → b ≡ place
+
+equal : (m n : ℕ) → T (eqb m n) → m ≡ n
+equal m n t = eqb-true m n (is-true (eqb m n) t)
+
+same : (m n : ℕ) → m ≡ n → T (eqb m n)
+same m n e = holds (eq-eqb m n e)
+
+-- each pair with the first number i has the area a
+only-decided : (pairs : Pairs) (i a : ℕ) → T (eachPair pairs (λ n b. not (eqb n i) || eqb b a)) ↔ ((b : ℕ) → T (pair pairs i b) → b ≡ a)
+only-decided pairs i a =
+    let e = each-pair pairs (λ n b. not (eqb n i) || eqb b a) in (
+      λ t b p. equal b a (implies (eqb i i) (eqb b a) (e .0 t i b p) (same i i refl)),
+      λ f. e .1 (λ n b p. implied (eqb n i) (eqb b a) (λ q. same b a (f b (rw (equal n i q) at p)))),
+    )
+
+pub once-decided : (pairs : Pairs) (i : ℕ) → T (once pairs i) ↔ Once pairs i
+unfolding once
+once-decided pairs i = (λ t. let r = e .0 t in there (r .0) (r .1) (r .2) (r .3), back)
+  where
+    only : ℕ → Bool
+    only a = eachPair pairs (λ n b. not (eqb n i) || eqb b a)
+
+    e : T (once pairs i) ↔ ((m : ℕ) × (a : ℕ) × T (pair pairs m a) × T (eqb m i && only a))
+    e = some-pair pairs (λ m a. eqb m i && only a)
+
+    there : (m a : ℕ) → T (pair pairs m a) → T (eqb m i && only a) → Once pairs i
+    there m a p t =
+        record { place = a; there = rw (equal m i (and-left (eqb m i) (only a) t)) at p; only = only-decided pairs i a .0 (and-right (eqb m i) (only a) t) }
+
+    back : Once pairs i → T (once pairs i)
+    back o = e .1 (i, o .place, o .there, and-both (eqb i i) (only (o .place)) (same i i refl) (only-decided pairs i (o .place) .1 (o .only)))
+
+acceptable-decided : (s : State) → T (isAcceptable s) ↔ Acceptable s
+unfolding isAcceptable allOwn allOwned allDefined
+acceptable-decided s = (
+  λ t. record {
+    users = λ u h. has-first (s .owners) u .0 (us .0 (and-left own owned (and-left (own && owned) defined t)) u h);
+    areas = λ a h. has-second (s .owners) a .0 (ar .0 (and-right own owned (and-left (own && owned) defined t)) a h);
+    objects = λ o h. let r = once-decided (s .definitions) o .0 (ob .0 (and-right (own && owned) defined t) o h) in record { place = r .place; defined = r .there; only = r .only };
+  },
+  λ a. and-both (own && owned) defined
+      (and-both own owned (us .1 (λ i h. has-first (s .owners) i .1 (a .users i h))) (ar .1 (λ i h. has-second (s .owners) i .1 (a .areas i h))))
+      (ob .1 (λ i h. let d = a .objects i h in once-decided (s .definitions) i .1 (record { place = d .place; there = d .defined; only = d .only }))),
+)
+  where
+    own : Bool
+    own = allOwn (s .users) (s .owners)
+
+    owned : Bool
+    owned = allOwned (s .areas) (s .owners)
+
+    defined : Bool
+    defined = allDefined (s .objects) (s .definitions)
+
+    us : T own ↔ ((i : ℕ) → T (listed s user i) → T (hasFirst (s .owners) i))
+    us = each-member (s .users) (hasFirst (s .owners))
+
+    ar : T owned ↔ ((i : ℕ) → T (listed s area i) → T (hasSecond (s .owners) i))
+    ar = each-member (s .areas) (hasSecond (s .owners))
+
+    ob : T defined ↔ ((i : ℕ) → T (listed s object i) → T (once (s .definitions) i))
+    ob = each-member (s .objects) (once (s .definitions))
+
+-- ---- some area
+pub some-decided : (set : Members) → T (someListed set) ↔ ((i : ℕ) × T (member set i))
+unfolding someListed
+some-decided set =
+    let e = some-member set (λ i. true) in
+    (λ t. let r = e .0 t in (r .0, r .1), λ r. e .1 (r .0, r .1, tt))
+
+-- ---- sound
+pub sound-decided : Claims.SoundDecided
+unfolding isSound
+sound-decided s shaped = (
+  λ t.
+      let three = and-left abc d t in
+      let two = and-left ab c three in
+      record {
+        shaped = shaped;
+        consistent = consistent-decided s .0 (and-left a b two);
+        acceptable = acceptable-decided s .0 (and-right a b two);
+        some-area = some-decided (s .areas) .0 (and-right ab c three);
+        valid = valid-decided s .0 (and-right abc d t);
+      },
+  λ q. and-both abc d
+      (and-both ab c (and-both a b (consistent-decided s .1 (q .consistent)) (acceptable-decided s .1 (q .acceptable))) (some-decided (s .areas) .1 (q .some-area)))
+      (valid-decided s .1 (q .valid)),
+)
+  where
+    a : Bool
+    a = isConsistent s
+
+    b : Bool
+    b = isAcceptable s
+
+    c : Bool
+    c = someListed (s .areas)
+
+    d : Bool
+    d = isValid s
+
+    ab : Bool
+    ab = a && b
+
+    abc : Bool
+    abc = ab && c
+
+-- ---- the founding state
+-- two names of relations are not the same: `cc` makes 0 ≡ 1 of an equation between them
+not-the-same : _≡_ {A = ℕ} 0 1 → ⊥
+not-the-same e = omega arith
+
+not-owner : (r : Relation) → (r ≡ owner → ⊥) → (i j : ℕ) → T (related founding r i j) → ⊥
+not-owner r ne i j t = fails (founding-no-pair r i j ne) t
+
+founding-names : Consistent founding
+founding-names owner i j t =
+    let b = subst T (founding-owner i j) t in
+    record {
+      first = subst T (sym (founding-listed i .0)) (and-left (eqb i 0) (eqb j 0) b);
+      second = subst T (sym (founding-listed j .1)) (and-right (eqb i 0) (eqb j 0) b);
+    }
+founding-names definition i j t = absurd (not-owner definition (λ e. not-the-same (cc)) i j t)
+founding-names structure i j t = absurd (not-owner structure (λ e. not-the-same (cc)) i j t)
+founding-names import i j t = absurd (not-owner import (λ e. not-the-same (cc)) i j t)
+founding-names export i j t = absurd (not-owner export (λ e. not-the-same (cc)) i j t)
+
+-- "user 0 owns area 0"
+founding-owns : (u a : ℕ) → T (eqb u 0) → T (eqb a 0) → T (owns founding u a)
+founding-owns u a hu ha = subst T (sym (founding-owner u a)) (and-both (eqb u 0) (eqb a 0) hu ha)
+
+pub founding-sound : Claims.FoundingSound
+founding-sound =
+    record {
+      shaped = founding-shaped;
+      consistent = founding-names;
+      acceptable = record {
+        users = λ u t. (0, founding-owns u 0 (subst T (founding-listed u .0) t) tt);
+        areas = λ a t. (0, founding-owns 0 a tt (subst T (founding-listed a .1) t));
+        objects = λ o t. absurd (fails (founding-listed o .2) t);
+      };
+      some-area = (0, subst T (sym (founding-listed 0 .1)) tt);
+      valid = record {
+        imported = λ o a t. absurd (not-owner import (λ e. not-the-same (cc)) o a t);
+        exported = λ o a t. absurd (not-owner export (λ e. not-the-same (cc)) o a t);
+      };
+    }

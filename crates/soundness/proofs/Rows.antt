@@ -1,0 +1,244 @@
+-- The tests of specs/Tests.antt, as the functions make them: row by row, and number by number.
+--     each-of-set, set-..                  each member of a set meets a test
+--     named-by-rows                        each pair of a relation names what is listed
+--     once-is-single                       exactly one pair has the number
+--     own-turned                           an area's owners, read in the owner pairs turned round
+--     valid-by-objects, nothing-to-reach   each import or export pair of an object has access; and an object without one
+-- Assumes nothing.
+use Prim.Native.Nat.{ℕ, _+_, _*_, _<_}
+use mathlib.Core.Path.{_≡_, refl, sym, ap, subst, _∙_}
+use mathlib.Core.Logic.{_⊎_, inl, inr, _↔_}
+use mathlib.Core.Bool.{Bool, true, false, _&&_, _||_, not}
+use mathlib.Core.List.{List}
+use native.Mathlib.Omega.{arith}
+use native.Mathlib.Decide.{decLt}
+use borrow.Author.Tests.{eqb-true, eq-eqb}
+use lib.Dec.{T, eqb}
+use lib.ListN.{length, getD, List·getD-eq-default}
+use Rattle.state.specs.Cells.{Members, Pairs, width, member, pair}
+use Rattle.state.specs.Walk.{eachMember, eachPair, hasFirst, hasSecond}
+use Rattle.state.proofs.Bools.{and-both, and-left, and-right, or-left, or-right, or-cases, is-true, holds, fails, same-test, implied, implies}
+use Rattle.state.proofs.Laws.{member-cell, pair-cell, pair-past, each-member, each-pair, has-first, has-second}
+use Rattle.rows.specs.Rows.{row, transpose}
+use Rattle.rows.proofs.Laws.{row-reads, transpose-reads}
+use Rattle.access.specs.Lending.{Lending, moveBy, lendingOf}
+use Rattle.access.specs.Answer.{longest, Areas, has, access, unreached, countsWithin, leastCounts}
+use Rattle.access.proofs.Laws.{access-is-count, counts-of-rows}
+use Rattle.soundness.specs.Rows.{eachBelow, countBelow, cellNamed, cellReached, objectReached}
+use Rattle.soundness.specs.Tests.{named, allOwn, allOwned, once, validOf}
+use Rattle.soundness.proofs.Each.{each-goes, each-at, each-by, each-stop, each-done, Single, count-one, one-counted}
+use Rattle.soundness.proofs.Laws.{named-decided, Once, once-decided}
+
+-- ---- where what is there lies
+pub member-inside : (set : Members) (i : ℕ) → T (member set i) → i < length set
+member-inside set i t = go (decLt i (length set))
+  where
+    go : Dec (i < length set) → i < length set
+    go (yes h) = h
+    go (no h) = absurd (fails (member-cell set i ∙ List·getD-eq-default set false (omega arith)) t)
+
+pair-area : (c : Pairs) (i j : ℕ) → T (pair c i j) → j < width
+pair-area c i j t = go (decLt j width)
+  where
+    go : Dec (j < width) → j < width
+    go (yes h) = h
+    go (no h) = absurd (fails (pair-past c i j (inl (omega arith))) t)
+
+pair-first : (c : Pairs) (n i j : ℕ) → length c ≡ n * width → T (pair c i j) → i < n
+pair-first c n i j long t = go (decLt i n)
+  where
+    go : Dec (i < n) → i < n
+    go (yes h) = h
+    go (no h) = absurd (fails (pair-past c i j (inr (omega arith))) t)
+
+-- ---- the members of a set
+-- number i meets the test, if it is in the set
+pub whereSet : (set : Members) (test : ℕ → Bool) → ℕ → Bool
+whereSet set test i = not (getD set i false) || test i
+
+module _ (set : Members) (test : ℕ → Bool) where
+  pub each-of-set : eachMember set test ≡ eachBelow (length set) (whereSet set test)
+  unfolding whereSet
+  each-of-set =
+      let e = each-member set test in
+      same-test (eachMember set test) (eachBelow (length set) (whereSet set test))
+      (λ t. each-by (whereSet set test) (length set) (λ i h. implied (getD set i false) (test i) (λ m. e .0 t i (subst T (sym (member-cell set i)) m))))
+      (λ t. e .1 (λ i m. implies (getD set i false) (test i) (each-at (whereSet set test) (length set) t i (member-inside set i m)) (subst T (member-cell set i) m)))
+
+  set-in : (i : ℕ) → getD set i false ≡ true → whereSet set test i ≡ test i
+  unfolding whereSet
+  set-in i e = rw e refl
+
+  set-out : (i : ℕ) → getD set i false ≡ false → whereSet set test i ≡ true
+  unfolding whereSet
+  set-out i e = rw e refl
+
+  -- one turn more: a member that meets the test, or a number that is no member
+  pub set-goes : (i : ℕ) → eachBelow i (whereSet set test) ≡ true → getD set i false ≡ true → test i ≡ true → eachBelow (i + 1) (whereSet set test) ≡ true
+  set-goes i e m t = each-goes (whereSet set test) i e (set-in i m ∙ t)
+
+  pub set-skips : (i : ℕ) → eachBelow i (whereSet set test) ≡ true → getD set i false ≡ false → eachBelow (i + 1) (whereSet set test) ≡ true
+  set-skips i e m = each-goes (whereSet set test) i e (set-out i m)
+
+  -- a member that does not, and no number left
+  pub set-stop : (i : ℕ) → i < length set → getD set i false ≡ true → test i ≡ false → false ≡ eachMember set test
+  set-stop i h m t = each-stop (whereSet set test) (length set) i h (set-in i m ∙ t) ∙ sym each-of-set
+
+  pub set-done : (n : ℕ) → n ≡ length set → eachBelow n (whereSet set test) ≡ true → true ≡ eachMember set test
+  set-done n e t = each-done (whereSet set test) (length set) n (omega arith) (omega arith) t ∙ sym each-of-set
+
+-- ---- named
+-- what row i names is listed
+unfoldable pub rowNamed : (pairs : Pairs) (firsts areas : Members) → ℕ → Bool
+rowNamed pairs firsts areas i = eachBelow 32 (cellNamed pairs (i * 32) (getD firsts i false) areas)
+
+pub named-by-rows : (pairs : Pairs) (firsts areas : Members) → length pairs ≡ length firsts * 32 → named pairs firsts areas ≡ eachBelow (length firsts) (rowNamed pairs firsts areas)
+unfolding rowNamed
+named-by-rows pairs firsts areas long =
+    let decided = named-decided pairs firsts areas in
+    same-test (named pairs firsts areas) (eachBelow (length firsts) (rowNamed pairs firsts areas))
+    (λ t. each-by (rowNamed pairs firsts areas) (length firsts)
+    (λ i hi. each-by (cellNamed pairs (i * 32) (getD firsts i false) areas) 32 (λ j hj. implied (getD pairs (i * 32 + j) false) (both i j) (λ p. there i j (decided .0 t i j (subst T (sym (pair-cell pairs i j hj)) p))))))
+    (λ t. decided .1 (λ i j p. back i j (pair-area pairs i j p) p (each-at (rowNamed pairs firsts areas) (length firsts) t i (pair-first pairs (length firsts) i j long p))))
+  where
+    both : ℕ → ℕ → Bool
+    both i j = getD firsts i false && getD areas j false
+
+    there : (i j : ℕ) → T (member firsts i) × T (member areas j) → T (both i j)
+    there i j r = and-both (getD firsts i false) (getD areas j false) (subst T (member-cell firsts i) (r .0)) (subst T (member-cell areas j) (r .1))
+
+    back : (i j : ℕ) → j < 32 → T (pair pairs i j) → T (eachBelow 32 (cellNamed pairs (i * 32) (getD firsts i false) areas)) → T (member firsts i) × T (member areas j)
+    back i j h p t =
+        let b = implies (getD pairs (i * 32 + j) false) (both i j) (each-at (cellNamed pairs (i * 32) (getD firsts i false) areas) 32 t j h) (subst T (pair-cell pairs i j h) p) in
+        (subst T (sym (member-cell firsts i)) (and-left (getD firsts i false) (getD areas j false) b), subst T (sym (member-cell areas j)) (and-right (getD firsts i false) (getD areas j false) b))
+
+-- ---- exactly one pair
+-- exactly one pair has the number i: its row has one cell that is set
+pub once-is-single : (pairs : Pairs) (i : ℕ) → eqb (countBelow 32 (has (row pairs i))) 1 ≡ once pairs i
+once-is-single pairs i =
+    same-test (eqb (countBelow 32 (has (row pairs i))) 1) (once pairs i)
+    (λ t. once-decided pairs i .1 (there (count-one (has (row pairs i)) 32 (eqb-true (countBelow 32 (has (row pairs i))) 1 (is-true (eqb (countBelow 32 (has (row pairs i))) 1) t)))))
+    (λ t. holds (eq-eqb (countBelow 32 (has (row pairs i))) 1 (one-counted (has (row pairs i)) 32 (back (once-decided pairs i .0 t)))))
+  where
+    there : Single (has (row pairs i)) 32 → Once pairs i
+    there s =
+        record {
+          place = s .place;
+          there = subst T (row-reads pairs i (s .place)) (s .met);
+          only = λ b p. s .only b (pair-area pairs i b p) (subst T (sym (row-reads pairs i b)) p);
+        }
+
+    back : Once pairs i → Single (has (row pairs i)) 32
+    back o =
+        record {
+          place = o .place;
+          below = pair-area pairs i (o .place) (o .there);
+          met = subst T (sym (row-reads pairs i (o .place))) (o .there);
+          only = λ k h t. o .only k (subst T (row-reads pairs i k) t);
+        }
+
+-- what `is_single` promises, handed the row
+pub single-of-row : (pairs : Pairs) (i : ℕ) (cells : Areas) (single : Bool) → cells ≡ row pairs i → single ≡ eqb (countBelow 32 (has cells)) 1 → single ≡ once pairs i
+single-of-row pairs i cells single e s = s ∙ ap (λ (l : Areas). eqb (countBelow 32 (has l)) 1) e ∙ once-is-single pairs i
+
+-- ---- the owners of an area
+turned-row : (owners : Pairs) (a : ℕ) → length owners ≡ 1024 → a < width → T (hasFirst (transpose owners) a) → T (hasSecond owners a)
+turned-row owners a long h t =
+    let r = has-first (transpose owners) a .0 t in
+    has-second owners a .1 (r .0, subst T (transpose-reads owners a (r .0) h (pair-area (transpose owners) a (r .0) (r .1))) (r .1))
+
+turned-column : (owners : Pairs) (a : ℕ) → length owners ≡ 1024 → a < width → T (hasSecond owners a) → T (hasFirst (transpose owners) a)
+turned-column owners a long h t =
+    let r = has-second owners a .0 t in
+    has-first (transpose owners) a .1 (r .0, subst T (sym (transpose-reads owners a (r .0) h (pair-first owners 32 (r .0) a long (r .1)))) (r .1))
+
+pub own-turned : (areas : Members) (owners : Pairs) → length areas ≡ 32 → length owners ≡ 1024 → allOwn areas (transpose owners) ≡ allOwned areas owners
+unfolding allOwn allOwned
+own-turned areas owners la lo =
+    let f = each-member areas (hasFirst (transpose owners)) in
+    let g = each-member areas (hasSecond owners) in
+    same-test (allOwn areas (transpose owners)) (allOwned areas owners)
+    (λ t. g .1 (λ a m. turned-row owners a lo (listed a m) (f .0 t a m)))
+    (λ t. f .1 (λ a m. turned-column owners a lo (listed a m) (g .0 t a m)))
+  where
+    listed : (a : ℕ) → T (member areas a) → a < width
+    listed a m = let h : a < length areas = member-inside areas a m in omega arith
+
+-- ---- valid
+module _ (ds st im ex : Pairs) where
+  -- the test of one object
+  abbrev reached : ℕ → Bool
+  reached = objectReached ds st im ex
+
+  -- the object's import and export pairs have access
+  pub record ObjectValid (o : ℕ) : Type 0 where
+    pub imported : (a : ℕ) → T (pair im o a) → T (access (lendingOf ds st im ex o) a)
+    pub exported : (a : ℕ) → T (pair ex o a) → T (access (lendingOf ds st im ex o) a)
+
+  valid-there : (o : ℕ) → T (reached o) → ObjectValid o
+  unfolding objectReached
+  valid-there o t =
+      record {
+        imported = λ a p. at a (pair-area im o a p) (or-left (has (row im o) a) (has (row ex o) a) (subst T (sym (row-reads im o a)) p));
+        exported = λ a p. at a (pair-area ex o a p) (or-right (has (row im o) a) (has (row ex o) a) (subst T (sym (row-reads ex o a)) p));
+      }
+    where
+      l : Lending
+      l = lendingOf ds st im ex o
+
+      at : (a : ℕ) → a < width → T (has (row im o) a || has (row ex o) a) → T (access l a)
+      at a h p =
+          subst T (sym (access-is-count l a h))
+          (implies (has (row im o) a || has (row ex o) a) (not (eqb (getD (leastCounts l) a 0) unreached)) (each-at (cellReached (row im o) (row ex o) (leastCounts l)) 32 t a h) p)
+
+  valid-back : (o : ℕ) → ObjectValid o → T (reached o)
+  unfolding objectReached
+  valid-back o v =
+      each-by (cellReached (row im o) (row ex o) (leastCounts l)) 32
+      (λ a h. implied (has (row im o) a || has (row ex o) a) (not (eqb (getD (leastCounts l) a 0) unreached)) (λ p. subst T (access-is-count l a h) (at a (or-cases (has (row im o) a) (has (row ex o) a) p))))
+    where
+      l : Lending
+      l = lendingOf ds st im ex o
+
+      at : (a : ℕ) → T (has (row im o) a) ⊎ T (has (row ex o) a) → T (access l a)
+      at a (inl p) = v .imported a (subst T (row-reads im o a) p)
+      at a (inr p) = v .exported a (subst T (row-reads ex o a) p)
+
+  pub valid-by-objects : length im ≡ 2048 → length ex ≡ 2048 → validOf ds st im ex ≡ eachBelow 64 reached
+  unfolding validOf
+  valid-by-objects li le =
+      same-test (validOf ds st im ex) (eachBelow 64 reached)
+      (λ t. each-by reached 64 (λ o h. valid-back o (record { imported = i .0 (and-left a b t) o; exported = e .0 (and-right a b t) o })))
+      (λ t. and-both a b (i .1 (λ o k p. valid-there o (each-at reached 64 t o (pair-first im 64 o k li p)) .imported k p)) (e .1 (λ o k p. valid-there o (each-at reached 64 t o (pair-first ex 64 o k le p)) .exported k p)))
+    where
+      fits : ℕ → ℕ → Bool
+      fits o k = access (lendingOf ds st im ex o) k
+
+      a : Bool
+      a = eachPair im fits
+
+      b : Bool
+      b = eachPair ex fits
+
+      i : T a ↔ ((o k : ℕ) → T (pair im o k) → T (fits o k))
+      i = each-pair im fits
+
+      e : T b ↔ ((o k : ℕ) → T (pair ex o k) → T (fits o k))
+      e = each-pair ex fits
+
+  -- an object without such a pair
+  pub nothing-to-reach : (o : ℕ) → hasFirst im o || hasFirst ex o ≡ false → reached o ≡ true
+  nothing-to-reach o none =
+      is-true (reached o)
+      (valid-back o
+      (record {
+        imported = λ a p. absurd (fails none (or-left (hasFirst im o) (hasFirst ex o) (has-first im o .1 (a, p))));
+        exported = λ a p. absurd (fails none (or-right (hasFirst im o) (hasFirst ex o) (has-first ex o .1 (a, p))));
+      }))
+
+  -- what `all_reached` promises, handed the object's rows and the counts of `least_counts`
+  pub reached-by-rows : (o : ℕ) (around : Pairs) (defined imported exported : Areas) (counts : List ℕ)
+      → around ≡ transpose st → defined ≡ row ds o → imported ≡ row im o → exported ≡ row ex o
+      → counts ≡ countsWithin (has defined) (moveBy st around (has imported) (has exported)) longest → eachBelow 32 (cellReached imported exported counts) ≡ reached o
+  unfolding objectReached
+  reached-by-rows o around defined imported exported counts t d m x e = rw (e, t, d, m, x, counts-of-rows ds st im ex o) refl

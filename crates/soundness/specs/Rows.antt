@@ -1,0 +1,32 @@
+-- What the functions promise of the rows that they are handed: a test of each number, and a count.
+use Prim.Native.Nat.{ℕ, zero, suc, _+_}
+use mathlib.Core.Bool.{Bool, true, false, _&&_, _||_, not, cond}
+use mathlib.Core.List.{List}
+use lib.Dec.{eqb}
+use lib.ListN.{getD}
+use Rattle.state.specs.Cells.{Members, Pairs}
+use Rattle.rows.specs.Rows.{row}
+use Rattle.access.specs.Lending.{lendingOf}
+use Rattle.access.specs.Answer.{Areas, has, unreached, leastCounts}
+
+-- each number below n meets the test
+unfoldable pub eachBelow : ℕ → (ℕ → Bool) → Bool
+eachBelow zero test = true
+eachBelow (suc n) test = eachBelow n test && test n
+
+-- how many numbers below n meet the test
+unfoldable pub countBelow : ℕ → (ℕ → Bool) → ℕ
+countBelow zero test = 0
+countBelow (suc n) test = countBelow n test + cond (test n) 1 0
+
+-- if there is a pair at place j of the row that starts at `from`, its area is listed and so is the row's own number
+abbrev pub cellNamed : (pairs : Pairs) (from : ℕ) (first : Bool) (areas : Members) → ℕ → Bool
+cellNamed pairs from first areas j = not (getD pairs (from + j) false) || (first && getD areas j false)
+
+-- if the area imports or exports the object, it has a count
+abbrev pub cellReached : (imported exported : Areas) (counts : List ℕ) → ℕ → Bool
+cellReached imported exported counts a = not (has imported a || has exported a) || not (eqb (getD counts a 0) unreached)
+
+-- each area that imports or exports object o has a count
+unfoldable pub objectReached : (definitions structure imports exports : Pairs) → ℕ → Bool
+objectReached definitions structure imports exports o = eachBelow 32 (cellReached (row imports o) (row exports o) (leastCounts (lendingOf definitions structure imports exports o)))

@@ -1,0 +1,181 @@
+// Whether a record is sound: consistent, acceptable, with at least one area, and valid.
+ghost use mathlib.Core.Path.{_≡_};
+ghost use mathlib.Core.Logic.{_↔_};
+ghost use Prim.Native.Nat.{_+_, _*_, _≤_};
+ghost use lib.Dec.{T, eqb};
+ghost use lib.ListN.{length};
+ghost use Rattle.rows.specs.Rows.{transpose};
+ghost use Rattle.access.specs.Answer.{has};
+ghost use Rattle.soundness.specs.Sound.{Valid, Sound};
+ghost use Rattle.soundness.specs.Tests.{named, allOwn, allDefined, someListed, isConsistent, isAcceptable, isValid, isSound};
+ghost use Rattle.soundness.specs.Rows.{eachBelow, countBelow, cellNamed, cellReached, objectReached};
+use state::State;
+
+// The count of an area that lacks access.
+const UNREACHED: u8 = 255;
+
+// Does each pair of the row that starts at `from` name an area of the set, and is there none unless the row's own number is listed?
+fn row_named(pairs: &[bool], from: usize, first: bool, areas: [bool; 32]) -> bool
+    requires { ⌜ from + 32 ≤ length (now pairs) ⌝ }
+    ensures { λ r. ⌜ r ≡ eachBelow 32 (cellNamed (now (pairs .entry)) from first areas) ⌝ }
+{
+    let mut fits = true;
+    for j in 0..32usize {
+        fits = fits & (!pairs[from + j] | (first & areas[j]));
+    }
+    fits
+}
+
+// Does each pair of the relation name a number of the set and an area?
+fn all_named<'a>(pairs: &'a [bool], firsts: &'a [bool], areas: [bool; 32]) -> bool
+    requires { ⌜ length (now pairs) ≡ length (now firsts) * 32 ⌝ }
+    ensures { λ r. ⌜ r ≡ named (now (pairs .entry)) (now (firsts .entry)) areas ⌝ }
+{
+    for i in 0..firsts.len() {
+        if !row_named(pairs, i * 32, firsts[i], areas) {
+            return false;
+        }
+    }
+    true
+}
+
+// Is each number of the set the first of some pair?
+fn all_own<'a>(set: [bool; 32], pairs: &'a [bool; 1024]) -> bool
+    ensures { λ r. ⌜ r ≡ allOwn set (now (pairs .entry)) ⌝ }
+{
+    for i in 0..32u8 {
+        if set[i as usize] {
+            if !rows::in_row(pairs, i) {
+                return false;
+            }
+        }
+    }
+    true
+}
+
+// Has the set exactly one number?
+fn is_single(set: [bool; 32]) -> bool
+    ensures { λ r. ⌜ r ≡ eqb (countBelow 32 (has set)) 1 ⌝ }
+{
+    let mut count: u8 = 0;
+    for j in 0..32usize {
+        count = count + set[j] as u8;
+    }
+    count == 1
+}
+
+// Is each number of the set the first of exactly one pair?
+fn all_defined<'a>(set: [bool; 64], pairs: &'a [bool]) -> bool
+    ensures { λ r. ⌜ r ≡ allDefined set (now (pairs .entry)) ⌝ }
+{
+    for i in 0..64u8 {
+        if set[i as usize] {
+            if !is_single(rows::row_of(pairs, i)) {
+                return false;
+            }
+        }
+    }
+    true
+}
+
+// Has the set a number at all?
+pub fn has_member(set: &[bool]) -> bool
+    ensures { λ r. ⌜ r ≡ someListed (now (set .entry)) ⌝ }
+{
+    for i in 0..set.len() {
+        if set[i] {
+            return true;
+        }
+    }
+    false
+}
+
+// Has each area that imports or exports an object a count?
+fn all_reached(imported: [bool; 32], exported: [bool; 32], counts: [u8; 32]) -> bool
+    ensures { λ r. ⌜ r ≡ eachBelow 32 (cellReached imported exported counts) ⌝ }
+{
+    let mut fits = true;
+    for a in 0..32usize {
+        fits = fits & (!(imported[a] | exported[a]) | (counts[a] != UNREACHED));
+    }
+    fits
+}
+
+// Has each area that imports or exports the object access to it? An object that no area imports or exports is passed over.
+fn object_reached<'a>(
+    definitions: &'a [bool],
+    structure: &'a [bool; 1024],
+    transposed: &'a [bool; 1024],
+    imports: &'a [bool],
+    exports: &'a [bool],
+    object: u8,
+) -> bool
+    requires { ⌜ now transposed ≡ transpose (now structure) ⌝ }
+    ensures { λ r. ⌜ r ≡ objectReached (now (definitions .entry)) (now (structure .entry)) (now (imports .entry)) (now (exports .entry)) object ⌝ }
+{
+    if !(rows::in_row(imports, object) | rows::in_row(exports, object)) {
+        return true;
+    }
+    let imported = rows::row_of(imports, object);
+    let exported = rows::row_of(exports, object);
+    let defined = rows::row_of(definitions, object);
+    let counts = access::least_counts(defined, structure, transposed, imported, exported);
+    all_reached(imported, exported, counts)
+}
+
+// For each import or export pair, has the area access to the object? Every object is asked about, listed or not: pairs of one that is not listed count.
+pub fn is_valid(s: State) -> bool
+    ensures equation { λ r. ⌜ r ≡ isValid s ⌝ }
+    ensures meaning { λ r. ⌜ T r ↔ Valid s ⌝ }
+{
+    let transposed = rows::transposed(&s.structure);
+    for o in 0..State::OBJECTS {
+        if !object_reached(
+            &s.definitions,
+            &s.structure,
+            &transposed,
+            &s.imports,
+            &s.exports,
+            o,
+        ) {
+            return false;
+        }
+    }
+    true
+}
+
+fn is_consistent(s: State) -> bool
+    ensures { λ r. ⌜ r ≡ isConsistent s ⌝ }
+{
+    let areas = s.areas;
+    all_named(&s.owners, &s.users, areas)
+        & all_named(&s.definitions, &s.objects, areas)
+        & all_named(&s.structure, &s.areas, areas)
+        & all_named(&s.imports, &s.objects, areas)
+        & all_named(&s.exports, &s.objects, areas)
+}
+
+fn is_acceptable(s: State) -> bool
+    ensures { λ r. ⌜ r ≡ isAcceptable s ⌝ }
+{
+    let owners = s.owners;
+    let turned = rows::transposed(&owners);
+    all_own(s.users, &owners) & all_own(s.areas, &turned) & all_defined(s.objects, &s.definitions)
+}
+
+// Is the record sound? Any content may be asked about.
+pub fn is_sound(s: State) -> bool
+    ensures equation { λ r. ⌜ r ≡ isSound s ⌝ }
+    ensures meaning { λ r. ⌜ T r ↔ Sound s ⌝ }
+{
+    if !is_consistent(s) {
+        return false;
+    }
+    if !is_acceptable(s) {
+        return false;
+    }
+    if !has_member(&s.areas) {
+        return false;
+    }
+    is_valid(s)
+}
