@@ -1,21 +1,22 @@
 -- The step in the order of its checks: a record that is not sound, bytes that fit no instruction, the checks of the instruction.
 -- Assumes nothing.
 use Prim.Native.Nat.{ℕ}
-use mathlib.Core.Path.{_≡_, refl, sym, ap, subst, _∙_}
+use mathlib.Core.Path.{_≡_, refl, sym, ap, _∙_}
 use mathlib.Core.Bool.{Bool, true, false, not, cond}
 use native.Mathlib.Omega.{arith}
 use lib.Dec.{eqb}
 use Rattle.state.specs.declared.State.{State}
 use Rattle.state.proofs.Bools.{fails}
 use Rattle.soundness.specs.Tests.{isSound}
-use Rattle.machine.specs.Instructions.{Bytes, row, Picked, unknown, instruction, instructionOf}
-use Rattle.machine.specs.Successor.{successor, successorOf}
-use Rattle.machine.specs.Refusals.{fits, inRange, firstMet, checks, decoding, refusals}
-use Rattle.machine.specs.Step.{decodedAs, decodeOf, decodedNumber, decided, refusalOf, stepOf}
-use Rattle.machine.specs.declared.Instruction.{Instruction}
-use Rattle.machine.specs.declared.Instruction.the-variants.{ListArea}
-use Rattle.machine.specs.declared.Decoded.{Decoded}
-use Rattle.machine.specs.declared.Decoded.the-variants.{Fits, NoCode, OutOfRange}
+use Rattle.instructions.specs.Instructions.{Bytes, row, Picked, unknown, instruction, instructionOf}
+use Rattle.instructions.specs.Decode.{fits, inRange, decodedAs, decodeOf, decodedNumber}
+use Rattle.instructions.specs.Successor.{successor, successorOf}
+use Rattle.machine.specs.Refusals.{firstMet, checks, decoding, refusals}
+use Rattle.machine.specs.Step.{decided, refusalOf, stepOf}
+use Rattle.instructions.specs.declared.Instruction.{Instruction}
+use Rattle.instructions.specs.declared.Instruction.the-variants.{ListArea}
+use Rattle.instructions.specs.declared.Decoded.{Decoded}
+use Rattle.instructions.specs.declared.Decoded.the-variants.{Fits, NoCode, OutOfRange}
 use Rattle.machine.specs.declared.Outcome.{Outcome}
 use Rattle.machine.proofs.First.{met, passed}
 

@@ -1,7 +1,7 @@
 -- The third demand. A step keeps soundness (Kept), and keeps the pairs of an area whose owners are silent; so does a list.
 -- Assumes nothing.
 use Prim.Native.Nat.{ℕ}
-use mathlib.Core.Path.{_≡_, refl, sym, ap, subst, _∙_}
+use mathlib.Core.Path.{_≡_, refl, sym, subst, _∙_}
 use mathlib.Core.Logic.{_⊎_, inl, inr}
 use mathlib.Core.Bool.{Bool, true, false, cond, not}
 use mathlib.Core.List.{List, [], _∷_}
@@ -13,14 +13,14 @@ use Rattle.state.specs.declared.State.{State}
 use Rattle.state.proofs.Bools.{fails}
 use Rattle.state.proofs.Laws.{list-keeps-pairs, related-else, related-other-relation}
 use Rattle.soundness.specs.Sound.{Sound}
-use Rattle.machine.specs.Instructions.{Bytes, Target, theArea, pairOf, row, Picked, unknown, instruction, instructionOf}
-use Rattle.machine.specs.Successor.{withoutOwner, changed, successor, successorOf}
+use Rattle.instructions.specs.Instructions.{Bytes, Target, theArea, pairOf, Picked, unknown, instruction, instructionOf}
+use Rattle.instructions.specs.Successor.{withoutOwner, changed, successor, successorOf}
 use Rattle.machine.specs.Refusals.{decoding, refusals, firstMet}
 use Rattle.machine.specs.Step.{refusalOf, stepOf, run}
 use Rattle.machine.specs.Demand3
-use Rattle.machine.specs.Demand3.{Silent, silent-end, silent-next, Guarantee, Upheld}
-use Rattle.machine.specs.declared.Instruction.{Instruction}
-use Rattle.machine.specs.declared.Instruction.the-variants.{ListArea, UnlistArea, AddOwner, RemoveOwner, AddStructure, RemoveStructure, Define, RemoveDefinition, AddImport, RemoveImport, AddExport, RemoveExport}
+use Rattle.machine.specs.Demand3.{Silent, silent-end, silent-next, Guarantee}
+use Rattle.instructions.specs.declared.Instruction.{Instruction}
+use Rattle.instructions.specs.declared.Instruction.the-variants.{ListArea, UnlistArea, AddOwner, RemoveOwner, AddStructure, RemoveStructure, Define, RemoveDefinition, AddImport, RemoveImport, AddExport, RemoveExport}
 use Rattle.machine.proofs.First.{numbered, Passed, all-passed}
 use Rattle.machine.proofs.Parts.{different}
 use Rattle.machine.proofs.Kept.{so, Accepted, accepted-sound}

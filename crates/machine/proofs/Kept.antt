@@ -12,20 +12,20 @@ use borrow.Author.Tests.{eqb-true, eq-eqb, ltb-true}
 use Rattle.state.specs.Site.{Kind, user, area, object, limit, listed, withListed, Relation, owner, definition, structure, import, export, firstKind, related, withPair, owns, defines, Shaped}
 use Rattle.state.specs.Walk.{someMember, somePair, hasFirst, hasSecond}
 use Rattle.state.specs.declared.State.{State}
-use Rattle.state.proofs.Bools.{is-true, holds, fails, and-both, and-left, and-right, not-so, so-not, or-left, or-right}
-use Rattle.state.proofs.Laws.{listed-same, listed-else, list-shaped, list-keeps-listed, unlist-adds-none, related-same, related-else, relate-shaped, add-keeps-pairs, remove-adds-none, some-member, some-pair, has-first, has-second}
+use Rattle.state.proofs.Bools.{is-true, holds, fails, and-both, and-left, and-right, not-so, so-not}
+use Rattle.state.proofs.Laws.{listed-same, listed-else, list-shaped, unlist-adds-none, related-same, related-else, relate-shaped, add-keeps-pairs, remove-adds-none, some-member, some-pair, has-first, has-second}
 use Rattle.access.specs.Lending.{lending}
 use Rattle.access.specs.Answer.{access}
 use Rattle.access.proofs.Laws.{access-is-defined}
-use Rattle.soundness.specs.Sound.{Named, Consistent, DefinedOnce, Acceptable, Valid, Sound}
+use Rattle.soundness.specs.Sound.{Named, DefinedOnce, Valid, Sound}
 use Rattle.soundness.specs.Tests.{isValid}
 use Rattle.soundness.proofs.Laws.{valid-decided}
-use Rattle.machine.specs.Instructions.{Target, theArea, pairOf, row}
-use Rattle.machine.specs.Successor.{withoutOwner, successor}
-use Rattle.machine.specs.Refusals.{outOfRange, missing, entitled, paired, present, absent, soleOwner, onlyArea, isLast, otherOwner, inUse, isEntry, bearsAccess, checks}
-use Rattle.machine.specs.declared.Instruction.{Instruction}
-use Rattle.machine.specs.declared.Instruction.the-variants.{ListArea, UnlistArea, AddOwner, RemoveOwner, AddStructure, RemoveStructure, Define, RemoveDefinition, AddImport, RemoveImport, AddExport, RemoveExport}
-use Rattle.machine.proofs.First.{Passed}
+use Rattle.instructions.specs.Instructions.{theArea, row}
+use Rattle.instructions.specs.Decode.{outOfRange}
+use Rattle.instructions.specs.Successor.{withoutOwner, successor}
+use Rattle.machine.specs.Refusals.{missing, entitled, present, absent, soleOwner, onlyArea, isLast, otherOwner, inUse, isEntry, bearsAccess}
+use Rattle.instructions.specs.declared.Instruction.{Instruction}
+use Rattle.instructions.specs.declared.Instruction.the-variants.{ListArea, UnlistArea, AddOwner, RemoveOwner, AddStructure, RemoveStructure, Define, RemoveDefinition, AddImport, RemoveImport, AddExport, RemoveExport}
 use Rattle.machine.proofs.Parts.{different, different-kind, listed-inside, removed, still, consistent-add, consistent-remove, consistent-list, Unnamed, consistent-unlist, consistent-without, once-same, acceptable-pair, acceptable-more, unlisted, users-without, areas-without, valid-same, valid-add}
 
 -- ---- truth values of a check that is not met

@@ -4,11 +4,10 @@ use Prim.Native.Nat.{ℕ}
 use mathlib.Core.Path.{_≡_, refl, sym, ap, subst, _∙_}
 use mathlib.Core.Logic.{_⊎_, inl, inr, _↔_}
 use mathlib.Core.Bool.{Bool, true, false, _&&_, _||_, not, cond}
-use mathlib.Core.List.{List, [], _∷_, _++_}
-use native.Mathlib.Decide.{ℕ-discrete}
+use mathlib.Core.List.{List, [], _∷_}
 use lib.Dec.{T, eqb}
 use borrow.Author.Tests.{eqb-true, eq-eqb}
-use Rattle.state.specs.Site.{user, area, owner, definition, structure, import, export, listed, withListed, withPair, owns, Shaped}
+use Rattle.state.specs.Site.{user, area, owner, structure, listed, withListed, withPair, owns, Shaped}
 use Rattle.state.specs.Walk.{someMember, somePair, hasFirst, hasSecond}
 use Rattle.state.specs.declared.State.{State}
 use Rattle.state.proofs.Bools.{is-true, holds, and-both, and-left, and-right, not-so, so-not, same-test}
@@ -17,13 +16,13 @@ use Rattle.access.specs.Lending.{lending}
 use Rattle.access.specs.Answer.{access}
 use Rattle.soundness.specs.Tests.{someListed, isValid}
 use Rattle.soundness.proofs.Laws.{some-decided}
-use Rattle.machine.specs.Instructions.{row}
-use Rattle.machine.specs.Successor.{withoutOwner, successor}
+use Rattle.instructions.specs.Instructions.{row}
+use Rattle.instructions.specs.Successor.{withoutOwner, successor}
 use Rattle.machine.specs.Refusals.{soleOwner, onlyArea, otherOwner, isLast, inUse, isEntry, bearsAccess, Check, _when_, checks, firstMet}
-use Rattle.machine.specs.Parts.{early, noneLeft, stillNamed, late}
-use Rattle.machine.specs.declared.Instruction.{Instruction}
-use Rattle.machine.specs.declared.Instruction.the-variants.{ListArea, UnlistArea, AddOwner, RemoveOwner, AddStructure, RemoveStructure, Define, RemoveDefinition, AddImport, RemoveImport, AddExport, RemoveExport}
-use Rattle.machine.proofs.First.{numbered, first-of-two}
+use Rattle.machine.specs.Parts.{early, late}
+use Rattle.instructions.specs.declared.Instruction.{Instruction}
+use Rattle.instructions.specs.declared.Instruction.the-variants.{ListArea, UnlistArea, AddOwner, RemoveOwner, AddStructure, RemoveStructure, Define, RemoveDefinition, AddImport, RemoveImport, AddExport, RemoveExport}
+use Rattle.machine.proofs.First.{first-of-two}
 use Rattle.machine.proofs.Parts.{removed, still, unlisted}
 use Rattle.machine.proofs.Kept.{fails-both}
 

@@ -1,5 +1,4 @@
 mod First
-mod Arms
 mod Parts
 mod Kept
 mod Late

@@ -1,23 +1,23 @@
 -- What an update of the record does to each part of soundness: one pair more or fewer, one number listed or not. The twelve codes are made of these.
 -- Assumes nothing.
-use Prim.Native.Nat.{ℕ, _≤_, _<_}
-use mathlib.Core.Path.{_≡_, refl, sym, ap, subst, _∙_}
+use Prim.Native.Nat.{ℕ, _<_}
+use mathlib.Core.Path.{_≡_, refl, sym, ap, subst}
 use mathlib.Core.Logic.{_⊎_, inl, inr}
 use mathlib.Core.Bool.{Bool, true, false, _&&_, not}
 use native.Mathlib.Omega.{arith}
 use native.Mathlib.Decide.{decLt, ℕ-discrete}
 use lib.Dec.{T, eqb}
-use borrow.Author.Tests.{eqb-true, eq-eqb}
+use borrow.Author.Tests.{eq-eqb}
 use Rattle.state.specs.Site.{Kind, user, area, object, limit, kindNumber, listed, withListed, Relation, owner, definition, structure, import, export, firstKind, related, relationNumber, withPair, owns, defines, Shaped}
 use Rattle.state.specs.Walk.{hasFirst}
 use Rattle.state.specs.declared.State.{State}
-use Rattle.state.proofs.Bools.{and-both, and-left, and-right, holds, fails, is-true, is-false}
-use Rattle.state.proofs.Laws.{listed-else, list-keeps-listed, unlist-adds-none, list-keeps-pairs, listed-same, listed-outside, related-same, related-other-relation, relate-shaped, related-else, related-outside, relate-keeps-lists, add-keeps-pairs, remove-adds-none, has-first}
+use Rattle.state.proofs.Bools.{and-both, and-right, holds, fails}
+use Rattle.state.proofs.Laws.{listed-else, list-keeps-listed, unlist-adds-none, list-keeps-pairs, listed-same, listed-outside, related-same, related-other-relation, relate-shaped, related-else, related-outside, relate-keeps-lists, remove-adds-none, has-first}
 use Rattle.access.specs.Lending.{Lending, lending}
 use Rattle.access.specs.Answer.{access}
 use Rattle.access.proofs.Laws.{more-keeps-access, added-is-included}
 use Rattle.soundness.specs.Sound.{Named, Consistent, DefinedOnce, Acceptable, Valid}
-use Rattle.machine.specs.Successor.{withoutOwner}
+use Rattle.instructions.specs.Successor.{withoutOwner}
 
 -- ---- numbers and pairs
 -- two relations with different numbers are not the same

@@ -11,7 +11,7 @@ use Rattle.state.specs.declared.State.{State}
 use Rattle.access.specs.Lending.{lending}
 use Rattle.access.specs.Answer.{access}
 use Rattle.soundness.specs.Sound.{Sound}
-use Rattle.machine.specs.Instructions.{Bytes}
+use Rattle.instructions.specs.Instructions.{Bytes}
 use Rattle.machine.specs.Step.{run}
 
 -- None of the owners that area p has in s activates an instruction of the list. "An area's owners at the start are the users in its owner pairs there;

@@ -6,7 +6,7 @@ use mathlib.Core.List.{List, [], _∷_, _++_}
 use Rattle.state.specs.Site.{founding}
 use Rattle.state.specs.Walk.{count}
 use Rattle.state.specs.declared.State.{State}
-use Rattle.machine.specs.Instructions.{Bytes, fourBytes}
+use Rattle.instructions.specs.Instructions.{Bytes, fourBytes}
 use Rattle.machine.specs.Step.{stepOf}
 
 -- the state line: "the counts of users, areas, objects, owner, structure, import and export pairs"

@@ -1,7 +1,5 @@
--- What a reader of this crate believes, in the order of document 01: the twelve instructions (Instructions), what each changes (Successor), when it is
--- refused (Refusals), the decoder, the step, the list and the access question (Step), the third demand (Demand3), and the paper's examples (Examples).
-pub mod Instructions
-pub mod Successor
+-- What a reader of this crate believes, in the order of document 01: when an instruction is refused (Refusals), the step, the list and the access
+-- question (Step), the third demand (Demand3), and the paper's examples (Examples). Parts has what this crate's own functions promise each other.
 pub mod Refusals
 pub mod Parts
 pub mod Step

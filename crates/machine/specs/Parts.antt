@@ -1,18 +1,18 @@
 -- What this crate's own functions promise each other, in terms of what they are handed: truth values that were read of a record, or the record that an
 -- instruction would give.
 use Prim.Native.Nat.{ℕ}
-use mathlib.Core.Bool.{Bool, true, false, _&&_, _||_, not}
+use mathlib.Core.Bool.{Bool, false, _&&_, _||_, not}
 use mathlib.Core.List.{List, [], _∷_}
 use Rattle.state.specs.Cells.{Pairs}
-use Rattle.state.specs.Site.{listed, user, owner, definition, structure, import, export, related}
+use Rattle.state.specs.Site.{listed, user, owner, definition, structure, import, export}
 use Rattle.state.specs.Walk.{hasFirst, hasSecond}
 use Rattle.state.specs.declared.State.{State}
 use Rattle.access.specs.Lending.{lending}
 use Rattle.access.specs.Answer.{access}
 use Rattle.soundness.specs.Tests.{someListed, isValid}
-use Rattle.machine.specs.Instructions.{Target, theArea, pairOf, row}
+use Rattle.instructions.specs.Instructions.{Target, theArea, pairOf, row}
 use Rattle.machine.specs.Refusals.{missing, entitled, present, absent, isEntry, bearsAccess, Check, _when_}
-use Rattle.machine.specs.declared.Instruction.{Instruction}
+use Rattle.instructions.specs.declared.Instruction.{Instruction}
 
 -- checks 3 to 7
 abbrev pub early : State → Instruction → (u a b : ℕ) → List Check

@@ -2,27 +2,17 @@
 use Prim.Native.Nat.{ℕ}
 use mathlib.Core.Bool.{Bool, true, false, _&&_, _||_, not, cond}
 use mathlib.Core.List.{List, [], _∷_}
-use lib.Dec.{eqb, ltb}
-use Rattle.state.specs.Site.{Kind, user, area, object, limit, listed, Relation, owner, definition, structure, import, export, related, owns}
+use lib.Dec.{eqb}
+use Rattle.state.specs.Site.{user, area, object, listed, Relation, owner, definition, structure, import, export, related, owns}
 use Rattle.state.specs.Walk.{eachMember, somePair, eachPair, hasFirst, hasSecond}
 use Rattle.state.specs.declared.State.{State}
 use Rattle.access.specs.Lending.{lending}
 use Rattle.access.specs.Answer.{access}
 use Rattle.soundness.specs.Tests.{isValid, isSound}
-use Rattle.machine.specs.Instructions.{Bytes, Target, theArea, pairOf, Operand, zeroOnly, numberOf, Lookup, noLookup, lookA, lookBoth, MustOwn, ownsNothing, ownsA, ownsBoth, ownsEither, row, Picked, unknown, instruction, instructionOf, firstOf, secondOf}
-use Rattle.machine.specs.Successor.{successor}
-use Rattle.machine.specs.declared.Instruction.{Instruction}
-
--- ---- 2: "a user or area above 31, an object above 63, or b not 0 for codes 1 and 2"
-abbrev pub fits : Operand → ℕ → Bool
-fits zeroOnly b = eqb b 0
-fits (numberOf k) b = ltb b (limit k)
-
-abbrev pub inRange : (fits : Bool) → (u a : ℕ) → Bool
-inRange f u a = ltb u (limit user) && ltb a (limit area) && f
-
-abbrev pub outOfRange : Operand → (u a b : ℕ) → Bool
-outOfRange o u a b = not (inRange (fits o b) u a)
+use Rattle.instructions.specs.Instructions.{Bytes, Target, theArea, pairOf, Lookup, noLookup, lookA, lookBoth, MustOwn, ownsNothing, ownsA, ownsBoth, ownsEither, row, Picked, unknown, instruction, instructionOf, firstOf, secondOf}
+use Rattle.instructions.specs.Decode.{outOfRange}
+use Rattle.instructions.specs.Successor.{successor}
+use Rattle.instructions.specs.declared.Instruction.{Instruction}
 
 -- ---- 4: "not listed: area a (codes 2 to 12), user b (4), area b (5, 6), object b (8 to 12)"
 -- by what is read: whether area a is listed, and together with it user b, area b, object b

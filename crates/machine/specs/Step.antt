@@ -1,6 +1,6 @@
 -- The step, the list of steps, and the access question.
 use Prim.Native.Nat.{ℕ}
-use mathlib.Core.Bool.{Bool, not, _&&_, cond}
+use mathlib.Core.Bool.{not, _&&_, cond}
 use mathlib.Core.List.{List, [], _∷_}
 use lib.Dec.{eqb, ltb}
 use Rattle.state.specs.Site.{area, object, limit}
@@ -8,33 +8,13 @@ use Rattle.state.specs.declared.State.{State}
 use Rattle.access.specs.Lending.{lending}
 use Rattle.access.specs.Answer.{answer}
 use Rattle.soundness.specs.Tests.{isSound}
-use Rattle.machine.specs.Instructions.{Bytes, numberOf, lookBoth, instructionOf, row, Picked, unknown, instruction}
-use Rattle.machine.specs.Successor.{successorOf}
-use Rattle.machine.specs.Refusals.{fits, inRange, missing, Check, _when_, refusals, firstMet}
-use Rattle.machine.specs.declared.Instruction.{Instruction}
-use Rattle.machine.specs.declared.Decoded.{Decoded}
-use Rattle.machine.specs.declared.Decoded.the-variants.{Fits, NoCode, OutOfRange}
+use Rattle.instructions.specs.Instructions.{Bytes, numberOf, lookBoth, instructionOf}
+use Rattle.instructions.specs.Decode.{fits}
+use Rattle.instructions.specs.Successor.{successorOf}
+use Rattle.machine.specs.Refusals.{missing, Check, _when_, refusals, firstMet}
 use Rattle.machine.specs.declared.Outcome.{Outcome}
 use Rattle.machine.specs.declared.Reply.{Reply}
 use Rattle.machine.specs.declared.Reply.the-variants.{Refused, Answered}
-
--- ---- the decoder
--- "A code from 1 to 12 picks the kind; bytes that fit no kind are refused"
-abbrev pub rangedAs : Instruction → (fits : Bool) → (u a : ℕ) → Decoded
-rangedAs x f u a = cond (inRange f u a) (Fits x) OutOfRange
-
-abbrev pub decodedAs : Bytes → Picked → Decoded
-decodedAs bytes unknown = NoCode
-decodedAs bytes (instruction x) = rangedAs x (fits (row x .operand) (bytes .b)) (bytes .activator) (bytes .a)
-
-unfoldable pub decodeOf : Bytes → Decoded
-decodeOf bytes = decodedAs bytes (instructionOf (bytes .code))
-
--- the paper's number for each case, 0 for bytes that fit
-abbrev pub decodedNumber : Decoded → ℕ
-decodedNumber (Fits x) = 0
-decodedNumber NoCode = 1
-decodedNumber OutOfRange = 2
 
 -- ---- the step
 -- the number of the refusal, 0 for an instruction that is accepted

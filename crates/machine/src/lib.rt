@@ -3,37 +3,16 @@ ghost use mathlib.Core.Path.{_≡_};
 ghost use mathlib.Core.Bool.{_&&_, not};
 ghost use Rattle.access.specs.Lending.{lending};
 ghost use Rattle.access.specs.Answer.{access};
-ghost use Rattle.machine.specs.Instructions.{fourBytes, row};
-ghost use Rattle.machine.specs.Successor.{withoutOwner, successor};
+ghost use Rattle.instructions.specs.Instructions.{fourBytes, row};
+ghost use Rattle.instructions.specs.Successor.{successor};
+ghost use Rattle.instructions.specs.declared.Instruction.the-variants.{UnlistArea};
 ghost use Rattle.machine.specs.Refusals.{missingBy, entitledBy, presentBy, absentBy, firstMet, checks};
 ghost use Rattle.machine.specs.Parts.{early, late, namesArea};
-ghost use Rattle.machine.specs.declared.Instruction.the-variants.{UnlistArea};
-ghost use Rattle.machine.specs.Step.{rangedAs, decodeOf, decodedNumber, decided, stepOf, questionRefusals, replyOf, replyNumber};
+ghost use Rattle.machine.specs.Step.{decided, stepOf, questionRefusals, replyOf, replyNumber};
 use access::Answer;
+use instructions::Decoded;
+use instructions::Instruction;
 use state::State;
-
-// The twelve instructions.
-pub enum Instruction {
-    ListArea,
-    UnlistArea,
-    AddOwner,
-    RemoveOwner,
-    AddStructure,
-    RemoveStructure,
-    Define,
-    RemoveDefinition,
-    AddImport,
-    RemoveImport,
-    AddExport,
-    RemoveExport,
-}
-
-// The instruction that four bytes fit, or that they fit none: the refusal 1 or 2.
-pub enum Decoded {
-    Fits(Instruction),
-    NoCode,
-    OutOfRange,
-}
 
 // The refusal, 0 for none, and the state after the instruction.
 pub struct Outcome {
@@ -45,52 +24,6 @@ pub struct Outcome {
 pub enum Reply {
     Refused(u8),
     Answered(Answer),
-}
-
-// The instruction, if its numbers are in range: `fits` says so of b.
-fn in_range(x: Instruction, fits: bool, activator: u8, a: u8) -> Decoded
-    ensures { λ r. ⌜ r ≡ rangedAs x fits activator a ⌝ }
-{
-    if (activator < State::USERS) & (a < State::AREAS) & fits {
-        Decoded::Fits(x)
-    } else {
-        Decoded::OutOfRange
-    }
-}
-
-// What four bytes fit. No list is looked at.
-pub fn decode(code: u8, activator: u8, a: u8, b: u8) -> Decoded
-    ensures { λ r. ⌜ r ≡ decodeOf (fourBytes code activator a b) ⌝ }
-{
-    let user = b < State::USERS;
-    let area = b < State::AREAS;
-    let object = b < State::OBJECTS;
-    match code {
-        1 => in_range(Instruction::ListArea, b == 0, activator, a),
-        2 => in_range(Instruction::UnlistArea, b == 0, activator, a),
-        3 => in_range(Instruction::AddOwner, user, activator, a),
-        4 => in_range(Instruction::RemoveOwner, user, activator, a),
-        5 => in_range(Instruction::AddStructure, area, activator, a),
-        6 => in_range(Instruction::RemoveStructure, area, activator, a),
-        7 => in_range(Instruction::Define, object, activator, a),
-        8 => in_range(Instruction::RemoveDefinition, object, activator, a),
-        9 => in_range(Instruction::AddImport, object, activator, a),
-        10 => in_range(Instruction::RemoveImport, object, activator, a),
-        11 => in_range(Instruction::AddExport, object, activator, a),
-        12 => in_range(Instruction::RemoveExport, object, activator, a),
-        0 | 13..=255 => Decoded::NoCode,
-    }
-}
-
-// The refusal of what was decoded, 0 if it fits.
-fn misfit(decoded: Decoded) -> u8
-    ensures { λ r. ⌜ r ≡ decodedNumber decoded ⌝ }
-{
-    match decoded {
-        Decoded::Fits(_) => 0,
-        Decoded::NoCode => 1,
-        Decoded::OutOfRange => 2,
-    }
 }
 
 // Refusal 4: something that the instruction names is not listed. `area` says that area a is; `user`, `outer` and `object` that b is too, as a user, an area or
@@ -187,58 +120,6 @@ fn is_absent(
         Instruction::AddExport => false,
         Instruction::RemoveExport => !exported,
     }
-}
-
-// The state without the owner pair (user, area): the user is unlisted if that was his last.
-fn without_owner(s: State, user: u8, area: u8) -> State
-    ensures { λ r. ⌜ r ≡ withoutOwner s user area ⌝ }
-{
-    let mut next = s;
-    state::put_32(&mut next.owners, user, area, false);
-    let keeps = state::is_member(&next.users, user) & rows::in_row(&next.owners, user);
-    state::mark_32(&mut next.users, user, keeps);
-    next
-}
-
-// The state that the instruction would give.
-fn successor(s: State, x: Instruction, u: u8, a: u8, b: u8) -> State
-    ensures { λ r. ⌜ r ≡ successor s x u a b ⌝ }
-{
-    let mut next = s;
-    match x {
-        Instruction::ListArea => {
-            state::mark_32(&mut next.areas, a, true);
-            state::put_32(&mut next.owners, u, a, true);
-        }
-        Instruction::UnlistArea => {
-            let less = without_owner(s, u, a);
-            next = less;
-            state::mark_32(&mut next.areas, a, false);
-        }
-        Instruction::AddOwner => {
-            state::mark_32(&mut next.users, b, true);
-            state::put_32(&mut next.owners, b, a, true);
-        }
-        Instruction::RemoveOwner => {
-            let less = without_owner(s, b, a);
-            next = less;
-        }
-        Instruction::AddStructure => state::put_32(&mut next.structure, a, b, true),
-        Instruction::RemoveStructure => state::put_32(&mut next.structure, a, b, false),
-        Instruction::Define => {
-            state::mark_64(&mut next.objects, b, true);
-            state::put_64(&mut next.definitions, b, a, true);
-        }
-        Instruction::RemoveDefinition => {
-            state::mark_64(&mut next.objects, b, false);
-            state::put_64(&mut next.definitions, b, a, false);
-        }
-        Instruction::AddImport => state::put_64(&mut next.imports, b, a, true),
-        Instruction::RemoveImport => state::put_64(&mut next.imports, b, a, false),
-        Instruction::AddExport => state::put_64(&mut next.exports, b, a, true),
-        Instruction::RemoveExport => state::put_64(&mut next.exports, b, a, false),
-    }
-    next
 }
 
 // The refusal of an instruction from 3 to 7, 0 if there is none of these.
@@ -363,7 +244,7 @@ fn judged(s: State, x: Instruction, u: u8, a: u8, b: u8) -> Outcome
             state: s,
         };
     }
-    let next = successor(s, x, u, a, b);
+    let next = instructions::successor(s, x, u, a, b);
     let late = late_refusal(next, x, a, b);
     if late != 0 {
         return Outcome {
@@ -387,9 +268,9 @@ pub fn step(s: State, code: u8, activator: u8, a: u8, b: u8) -> Outcome
             state: s,
         };
     }
-    let decoded = decode(code, activator, a, b);
+    let decoded = instructions::decode(code, activator, a, b);
     let Decoded::Fits(x) = decoded else {
-        let refusal = misfit(decoded);
+        let refusal = instructions::misfit(decoded);
         return Outcome {
             refusal: refusal,
             state: s,

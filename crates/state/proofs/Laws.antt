@@ -11,7 +11,7 @@ use borrow.Author.Tests.{eq-eqb, ne-eqb, eqb-true}
 use lib.Dec.{T, eqb}
 use lib.ListN.{length, getD}
 use lib.Seq.{ext-getD}
-use Rattle.state.specs.Cells.{Members, Pairs, width, member, mark, pair, put}
+use Rattle.state.specs.Cells.{Pairs, width, member, mark, pair, put}
 use Rattle.state.specs.Walk.{someMember, somePair}
 use Rattle.state.specs.Site.{Kind, user, area, object, limit, members, kindNumber, afterMark, withListed, Relation, owner, definition, structure, import, export, firstKind, cells, related, relationNumber, afterPut, withPair, empty, founding, Shaped}
 use Rattle.state.specs.Laws

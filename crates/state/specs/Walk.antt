@@ -4,7 +4,7 @@
 --     somePair, eachPair         of the pairs of a relation
 --     hasFirst, hasSecond        a pair with this first number, with this area
 --     count                      how many
-use Prim.Native.Nat.{ℕ, zero, suc, _/_, _%_}
+use Prim.Native.Nat.{ℕ, suc, _/_, _%_}
 use mathlib.Core.Bool.{Bool, true, false, _||_, not}
 use mathlib.Core.List.{List, [], _∷_}
 use lib.Dec.{eqb}

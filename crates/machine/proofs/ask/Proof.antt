@@ -6,11 +6,10 @@ use mathlib.Core.Bool.{Bool, true, false, _&&_, not}
 use Rattle.state.specs.Site.{object}
 use Rattle.state.specs.declared.State.{State}
 use Rattle.soundness.specs.Tests.{isSound}
-use Rattle.machine.specs.Instructions.{lookBoth}
+use Rattle.instructions.specs.Instructions.{lookBoth}
 use Rattle.machine.specs.Refusals.{missing, firstMet}
-use Rattle.machine.specs.Step.{questionRefusals, replied, replyOf, replyNumber}
-use Rattle.machine.specs.declared.Reply.{Reply}
-use Rattle.machine.specs.declared.Reply.the-variants.{Refused, Answered}
+use Rattle.machine.specs.Step.{questionRefusals, replied, replyOf}
+use Rattle.machine.specs.declared.Reply.the-variants.{Answered}
 use Rattle.machine.proofs.First.{met, passed, none-met}
 use Rattle.machine.proofs.ask.Statement.{statement}
 use Rattle.machine.proofs.ask.Tie as tie

@@ -1,10 +1,9 @@
 -- `machine::early_refusal` meets its contract. At each `if` the value that is tested is the check's condition (`..-is`); past it the check is passed.
 -- Assumes nothing.
 use mathlib.Core.Path.{_≡_, sym, ap, _∙_}
-use mathlib.Core.Bool.{Bool, true, false, _&&_, _||_, not}
+use mathlib.Core.Bool.{false, _&&_, _||_, not}
 use Rattle.state.specs.Site.{user, listed}
-use Rattle.state.specs.declared.State.{State}
-use Rattle.machine.specs.Instructions.{row}
+use Rattle.instructions.specs.Instructions.{row}
 use Rattle.machine.specs.Refusals.{missing, missingBy, entitled, entitledBy, present, presentBy, absent, absentBy}
 use Rattle.machine.proofs.First.{met, passed, none-met}
 use Rattle.machine.proofs.early_refusal.Statement.{statement}

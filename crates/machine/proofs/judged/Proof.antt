@@ -8,7 +8,7 @@ use borrow.Author.Tests.{eq-eqb, ne-eqb}
 use Rattle.state.specs.Site.{Shaped}
 use Rattle.state.specs.declared.State.{State}
 use Rattle.state.proofs.Typed.{shaped-by-type}
-use Rattle.machine.specs.Successor.{successor}
+use Rattle.instructions.specs.Successor.{successor}
 use Rattle.machine.specs.Refusals.{firstMet, checks}
 use Rattle.machine.specs.Parts.{early, late}
 use Rattle.machine.specs.Step.{decided}

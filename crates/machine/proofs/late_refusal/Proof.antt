@@ -3,17 +3,14 @@
 use Prim.Native.Nat.{ℕ}
 use mathlib.Core.Path.{_≡_, refl, sym, ap, _∙_}
 use mathlib.Core.Bool.{Bool, true, false, not}
-use mathlib.Core.List.{List, [], _∷_}
+use mathlib.Core.List.{[], _∷_}
 use borrow.Author.Needs.{needs}
 use Rattle.state.specs.declared.State.{State}
-use Rattle.access.specs.Lending.{lending}
-use Rattle.access.specs.Answer.{access}
-use Rattle.soundness.specs.Tests.{isValid}
-use Rattle.machine.specs.Refusals.{Check, _when_, firstMet}
+use Rattle.machine.specs.Refusals.{_when_, firstMet}
 use Rattle.machine.specs.Parts.{late}
-use Rattle.machine.specs.declared.Instruction.{Instruction}
+use Rattle.instructions.specs.declared.Instruction.{Instruction}
 use Rattle.machine.proofs.First.{met, passed, none-met}
-use Rattle.machine.proofs.Arms.{in-arm}
+use Rattle.instructions.proofs.Arms.{in-arm}
 use Rattle.machine.proofs.late_refusal.Statement.{statement}
 use Rattle.machine.proofs.late_refusal.Tie as tie
 

@@ -1,20 +1,19 @@
 -- `machine::step` meets its contract.
 -- Assumes nothing.
 use mathlib.Core.Path.{_≡_, refl, sym, ap, _∙_}
-use mathlib.Core.Logic.{_⊎_, inl, inr}
+use mathlib.Core.Logic.{inl, inr}
 use mathlib.Core.Bool.{Bool, true, false, not}
-use mathlib.Core.List.{List, [], _∷_}
+use mathlib.Core.List.{[], _∷_}
 use native.Mathlib.Omega.{arith}
 use borrow.Author.Needs.{needs}
 use denote.Enum.Declared.{tagOf}
 use types.Run.{OneOf}
 use lib.Dec.{eqb}
 use Rattle.soundness.specs.Tests.{isSound}
-use Rattle.machine.specs.Step.{decodedNumber}
-use Rattle.machine.specs.declared.Decoded.{Decoded}
-use Rattle.machine.specs.declared.Decoded.the-variants.{Fits, NoCode, OutOfRange}
-use Rattle.machine.specs.declared.Outcome.{Outcome}
-use Rattle.machine.proofs.Decoded.{the-type}
+use Rattle.instructions.specs.Decode.{decodedNumber}
+use Rattle.instructions.specs.declared.Decoded.{Decoded}
+use Rattle.instructions.specs.declared.Decoded.the-variants.{Fits, NoCode, OutOfRange}
+use Rattle.instructions.proofs.Decoded.{the-type}
 use Rattle.machine.proofs.Decide.{step-unsound, step-misfit, step-fit}
 use Rattle.machine.proofs.step.Statement.{statement}
 use Rattle.machine.proofs.step.Tie as tie

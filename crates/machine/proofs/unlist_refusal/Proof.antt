@@ -1,7 +1,7 @@
 -- `machine::unlist_refusal` meets its contract.
 -- Assumes nothing.
 use mathlib.Core.Path.{_≡_, refl, sym, ap, _∙_}
-use mathlib.Core.Bool.{true, false, not}
+use mathlib.Core.Bool.{false, not}
 use Rattle.soundness.specs.Tests.{someListed}
 use Rattle.machine.proofs.First.{met, passed, none-met}
 use Rattle.machine.proofs.unlist_refusal.Statement.{statement}

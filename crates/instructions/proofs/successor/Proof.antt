@@ -1,17 +1,16 @@
--- `machine::successor` meets its contract: in each arm the fields that were written are those of the instruction's successor, and the others stay.
+-- `instructions::successor` meets its contract: in each arm the fields that were written are those of the instruction's successor, and the others stay.
 -- Assumes nothing.
 use Prim.Native.Nat.{ℕ}
 use mathlib.Core.Path.{_≡_, refl, sym, ap, _∙_}
-use mathlib.Core.List.{List}
 use mathlib.Core.Bool.{false}
 use borrow.Author.Needs.{needs}
 use Rattle.state.specs.Cells.{Members, Pairs, mark}
 use Rattle.state.specs.declared.State.{State}
-use Rattle.machine.specs.Successor.{successor}
-use Rattle.machine.specs.declared.Instruction.{Instruction}
-use Rattle.machine.specs.declared.Instruction.the-variants.{ListArea, UnlistArea, AddOwner, RemoveOwner, AddStructure, RemoveStructure, Define, RemoveDefinition, AddImport, RemoveImport, AddExport, RemoveExport}
-use Rattle.machine.proofs.successor.Statement.{statement}
-use Rattle.machine.proofs.successor.Tie as tie
+use Rattle.instructions.specs.Successor.{successor}
+use Rattle.instructions.specs.declared.Instruction.{Instruction}
+use Rattle.instructions.specs.declared.Instruction.the-variants.{ListArea, UnlistArea, AddOwner, AddStructure, RemoveStructure, Define, RemoveDefinition, AddImport, RemoveImport, AddExport, RemoveExport}
+use Rattle.instructions.proofs.successor.Statement.{statement}
+use Rattle.instructions.proofs.successor.Tie as tie
 
 -- the record that an arm leaves, field by field
 by-fields : (s : State) {x : Instruction} (k : Instruction) (u a b : ℕ) {us ar : Members} {ob : Members} {ow de st im ex : Pairs}

@@ -1,4 +1,4 @@
--- `machine::decode` meets its contract. In an arm the code is its number, and in the last it is none of 0 to 12.
+-- `instructions::decode` meets its contract. In an arm the code is its number, and in the last it is none of 0 to 12.
 -- Assumes nothing.
 use Prim.Native.Nat.{ℕ, zero, suc, _≤_, zero-le}
 use mathlib.Core.Path.{_≡_, refl, sym, ap, _∙_}
@@ -6,11 +6,11 @@ use mathlib.Core.List.{List, [], _∷_}
 use native.Mathlib.Nat.{not-suc-le-zero, le-of-suc-le-suc}
 use native.Mathlib.Omega.{arith}
 use lib.ListN.{length}
-use Rattle.machine.specs.Instructions.{fourBytes, Picked, unknown, instructions, pick, instructionOf}
-use Rattle.machine.specs.Step.{decodedAs, decodeOf}
-use Rattle.machine.specs.declared.Instruction.{Instruction}
-use Rattle.machine.proofs.decode.Statement.{statement}
-use Rattle.machine.proofs.decode.Tie as tie
+use Rattle.instructions.specs.Instructions.{fourBytes, unknown, instructions, pick, instructionOf}
+use Rattle.instructions.specs.Decode.{decodedAs, decodeOf}
+use Rattle.instructions.specs.declared.Instruction.{Instruction}
+use Rattle.instructions.proofs.decode.Statement.{statement}
+use Rattle.instructions.proofs.decode.Tie as tie
 
 -- the code is n
 decoded-at : (n code u a b : ℕ) → code ≡ n → decodedAs (fourBytes code u a b) (instructionOf n) ≡ decodeOf (fourBytes code u a b)

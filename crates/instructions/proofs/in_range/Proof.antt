@@ -1,10 +1,10 @@
--- `machine::in_range` meets its contract.
+-- `instructions::in_range` meets its contract.
 -- Assumes nothing.
 use mathlib.Core.Path.{sym, ap}
 use mathlib.Core.Bool.{Bool, cond}
-use Rattle.machine.specs.declared.Decoded.the-variants.{Fits, OutOfRange}
-use Rattle.machine.proofs.in_range.Statement.{statement}
-use Rattle.machine.proofs.in_range.Tie as tie
+use Rattle.instructions.specs.declared.Decoded.the-variants.{Fits, OutOfRange}
+use Rattle.instructions.proofs.in_range.Statement.{statement}
+use Rattle.instructions.proofs.in_range.Tie as tie
 
 returns : tie.Need-returns
 returns c = sym (ap (λ (b : Bool). cond b (Fits (c .before .args .x)) OutOfRange) (c .if1 .taken))

@@ -4,8 +4,8 @@ use mathlib.Core.Bool.{Bool, true, false, _&&_}
 use Rattle.state.specs.Site.{user, area, object, listed, withListed, Relation, owner, definition, structure, import, export, withPair}
 use Rattle.state.specs.Walk.{hasFirst}
 use Rattle.state.specs.declared.State.{State}
-use Rattle.machine.specs.Instructions.{Bytes, Target, theArea, pairOf, row, Picked, unknown, instruction, firstOf, secondOf}
-use Rattle.machine.specs.declared.Instruction.{Instruction}
+use Rattle.instructions.specs.Instructions.{Bytes, Target, theArea, pairOf, row, Picked, unknown, instruction, firstOf, secondOf}
+use Rattle.instructions.specs.declared.Instruction.{Instruction}
 
 -- the state with (v true) or without (v false) the pair that a and b stand for
 abbrev pub withThePair : State → Relation → (a b : ℕ) → Bool → State

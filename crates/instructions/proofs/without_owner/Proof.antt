@@ -1,11 +1,11 @@
--- `machine::without_owner` meets its contract.
+-- `instructions::without_owner` meets its contract.
 -- Assumes nothing.
 use mathlib.Core.Path.{ap, ap₂, _∙_}
 use mathlib.Core.Bool.{Bool, _&&_}
 use Rattle.state.specs.Cells.{Pairs, mark}
 use Rattle.state.specs.Walk.{hasFirst}
-use Rattle.machine.proofs.without_owner.Statement.{statement}
-use Rattle.machine.proofs.without_owner.Tie as tie
+use Rattle.instructions.proofs.without_owner.Statement.{statement}
+use Rattle.instructions.proofs.without_owner.Tie as tie
 
 put-32-requires : tie.Need-put-32-requires
 put-32-requires c κs = tt

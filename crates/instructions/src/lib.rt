@@ -1,0 +1,127 @@
+// What four bytes mean: the instruction that they fit, and the state that it would give.
+ghost use mathlib.Core.Path.{_≡_};
+ghost use Rattle.instructions.specs.Instructions.{fourBytes};
+ghost use Rattle.instructions.specs.Decode.{rangedAs, decodeOf, decodedNumber};
+ghost use Rattle.instructions.specs.Successor.{withoutOwner, successor};
+use state::State;
+
+// The twelve instructions.
+pub enum Instruction {
+    ListArea,
+    UnlistArea,
+    AddOwner,
+    RemoveOwner,
+    AddStructure,
+    RemoveStructure,
+    Define,
+    RemoveDefinition,
+    AddImport,
+    RemoveImport,
+    AddExport,
+    RemoveExport,
+}
+
+// The instruction that four bytes fit, or that they fit none: the refusal 1 or 2.
+pub enum Decoded {
+    Fits(Instruction),
+    NoCode,
+    OutOfRange,
+}
+
+// The instruction, if its numbers are in range: `fits` says so of b.
+fn in_range(x: Instruction, fits: bool, activator: u8, a: u8) -> Decoded
+    ensures { λ r. ⌜ r ≡ rangedAs x fits activator a ⌝ }
+{
+    if (activator < State::USERS) & (a < State::AREAS) & fits {
+        Decoded::Fits(x)
+    } else {
+        Decoded::OutOfRange
+    }
+}
+
+// What four bytes fit. No list is looked at.
+pub fn decode(code: u8, activator: u8, a: u8, b: u8) -> Decoded
+    ensures { λ r. ⌜ r ≡ decodeOf (fourBytes code activator a b) ⌝ }
+{
+    let user = b < State::USERS;
+    let area = b < State::AREAS;
+    let object = b < State::OBJECTS;
+    match code {
+        1 => in_range(Instruction::ListArea, b == 0, activator, a),
+        2 => in_range(Instruction::UnlistArea, b == 0, activator, a),
+        3 => in_range(Instruction::AddOwner, user, activator, a),
+        4 => in_range(Instruction::RemoveOwner, user, activator, a),
+        5 => in_range(Instruction::AddStructure, area, activator, a),
+        6 => in_range(Instruction::RemoveStructure, area, activator, a),
+        7 => in_range(Instruction::Define, object, activator, a),
+        8 => in_range(Instruction::RemoveDefinition, object, activator, a),
+        9 => in_range(Instruction::AddImport, object, activator, a),
+        10 => in_range(Instruction::RemoveImport, object, activator, a),
+        11 => in_range(Instruction::AddExport, object, activator, a),
+        12 => in_range(Instruction::RemoveExport, object, activator, a),
+        0 | 13..=255 => Decoded::NoCode,
+    }
+}
+
+// The refusal of what was decoded, 0 if it fits.
+pub fn misfit(decoded: Decoded) -> u8
+    ensures { λ r. ⌜ r ≡ decodedNumber decoded ⌝ }
+{
+    match decoded {
+        Decoded::Fits(_) => 0,
+        Decoded::NoCode => 1,
+        Decoded::OutOfRange => 2,
+    }
+}
+
+// The state without the owner pair (user, area): the user is unlisted if that was his last.
+fn without_owner(s: State, user: u8, area: u8) -> State
+    ensures { λ r. ⌜ r ≡ withoutOwner s user area ⌝ }
+{
+    let mut next = s;
+    state::put_32(&mut next.owners, user, area, false);
+    let keeps = state::is_member(&next.users, user) & rows::in_row(&next.owners, user);
+    state::mark_32(&mut next.users, user, keeps);
+    next
+}
+
+// The state that the instruction would give, whatever the record and the numbers.
+pub fn successor(s: State, x: Instruction, u: u8, a: u8, b: u8) -> State
+    ensures { λ r. ⌜ r ≡ successor s x u a b ⌝ }
+{
+    let mut next = s;
+    match x {
+        Instruction::ListArea => {
+            state::mark_32(&mut next.areas, a, true);
+            state::put_32(&mut next.owners, u, a, true);
+        }
+        Instruction::UnlistArea => {
+            let less = without_owner(s, u, a);
+            next = less;
+            state::mark_32(&mut next.areas, a, false);
+        }
+        Instruction::AddOwner => {
+            state::mark_32(&mut next.users, b, true);
+            state::put_32(&mut next.owners, b, a, true);
+        }
+        Instruction::RemoveOwner => {
+            let less = without_owner(s, b, a);
+            next = less;
+        }
+        Instruction::AddStructure => state::put_32(&mut next.structure, a, b, true),
+        Instruction::RemoveStructure => state::put_32(&mut next.structure, a, b, false),
+        Instruction::Define => {
+            state::mark_64(&mut next.objects, b, true);
+            state::put_64(&mut next.definitions, b, a, true);
+        }
+        Instruction::RemoveDefinition => {
+            state::mark_64(&mut next.objects, b, false);
+            state::put_64(&mut next.definitions, b, a, false);
+        }
+        Instruction::AddImport => state::put_64(&mut next.imports, b, a, true),
+        Instruction::RemoveImport => state::put_64(&mut next.imports, b, a, false),
+        Instruction::AddExport => state::put_64(&mut next.exports, b, a, true),
+        Instruction::RemoveExport => state::put_64(&mut next.exports, b, a, false),
+    }
+    next
+}
