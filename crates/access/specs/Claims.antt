@@ -65,7 +65,8 @@ isSteps NoAccess = false
 abbrev pub AccessIsSteps : Type 0
 AccessIsSteps = (l : Lending) (a : ℕ) → access l a ≡ isSteps (answer l a)
 
--- "An area has access to an object if it defines it or a chain of steps leads to it from the defining area."
+-- "An area has access to an object if it defines it or a chain of steps leads to it from the defining area." The chain is within the limit; without the
+-- bound the sentence is this claim and ShortChains.
 abbrev pub AccessIsChain : Type 0
 AccessIsChain = (l : Lending) (a : ℕ) → T (access l a) ↔ ((n : ℕ) × (n ≤ longest) × ObjectChain l n a)
 

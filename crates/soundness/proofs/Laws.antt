@@ -10,13 +10,13 @@ use borrow.Author.Tests.{eqb-true, eq-eqb}
 use lib.Dec.{T, eqb}
 use Rattle.state.specs.Cells.{Members, Pairs, member, pair}
 use Rattle.state.specs.Walk.{eachPair, hasFirst, hasSecond}
-use Rattle.state.specs.Site.{user, area, object, Relation, owner, definition, structure, import, export, members, cells, firstKind, listed, related, owns, founding}
+use Rattle.state.specs.Site.{Kind, user, area, object, Relation, owner, definition, structure, import, export, members, cells, firstKind, listed, related, owns, founding}
 use Rattle.state.specs.declared.State.{State}
-use Rattle.state.proofs.Bools.{and-both, and-left, and-right, is-true, holds, fails, implied, implies}
-use Rattle.state.proofs.Laws.{some-member, each-member, some-pair, each-pair, has-first, has-second, founding-listed, founding-owner, founding-no-pair, founding-shaped}
+use Rattle.state.proofs.Bools.{and-both, and-left, and-right, is-true, holds, fails, same-test, implied, implies}
+use Rattle.state.proofs.Laws.{some-member, each-member, some-pair, each-pair, has-first, has-second, founding-listed, founding-owner, founding-no-pair, founding-shaped, one-record}
 use Rattle.access.specs.Lending.{lending}
 use Rattle.access.specs.Answer.{access}
-use Rattle.soundness.specs.Sound.{Named, Consistent, Acceptable}
+use Rattle.soundness.specs.Sound.{Named, Consistent, Acceptable, Sound}
 use Rattle.soundness.specs.Tests.{named, isConsistent, allOwn, allOwned, once, allDefined, isAcceptable, someListed, validOf, isValid, isSound}
 use Rattle.soundness.specs.Claims
 
@@ -229,3 +229,18 @@ founding-sound =
         exported = λ o a t. absurd (not-owner export (λ e. not-the-same (cc)) o a t);
       };
     }
+
+-- ---- the relations fix the lists
+lists-follow : (s t : State) → Sound s → Sound t → ((r : Relation) (i j : ℕ) → related s r i j ≡ related t r i j) → (k : Kind) (i : ℕ) → T (listed s k i) → T (listed t k i)
+lists-follow s t h k e user u l = let d = h .acceptable .users u l in k .consistent owner u (d .0) (subst T (e owner u (d .0)) (d .1)) .first
+lists-follow s t h k e area a l = let d = h .acceptable .areas a l in k .consistent owner (d .0) a (subst T (e owner (d .0) a) (d .1)) .second
+lists-follow s t h k e object o l =
+    let d = h .acceptable .objects o l in k .consistent definition o (d .place) (subst T (e definition o (d .place)) (d .defined)) .first
+
+pub record-of-relations : Claims.RecordOfRelations
+record-of-relations s t h k e =
+    one-record s t (h .shaped) (k .shaped)
+    (record {
+      lists = λ l i inside. same-test (listed s l i) (listed t l i) (lists-follow s t h k e l i) (lists-follow t s k h (λ r m n. sym (e r m n)) l i);
+      pairs = λ r i j hi hj. e r i j;
+    })

@@ -1,7 +1,10 @@
--- What is claimed of the tests: each decides its part of soundness. Each claim is a type, which proofs/Laws.antt inhabits under the claim's name.
+-- What is claimed: the tests decide validity and soundness, the founding state is sound, and a sound record is that of its relations. Each claim is a
+-- type, which proofs/Laws.antt inhabits under the claim's name.
+use Prim.Native.Nat.{ℕ}
+use mathlib.Core.Path.{_≡_}
 use mathlib.Core.Logic.{_↔_}
 use lib.Dec.{T}
-use Rattle.state.specs.Site.{Shaped, founding}
+use Rattle.state.specs.Site.{Relation, related, Shaped, founding}
 use Rattle.state.specs.declared.State.{State}
 use Rattle.soundness.specs.Sound.{Valid, Sound}
 use Rattle.soundness.specs.Tests.{isValid, isSound}
@@ -14,3 +17,7 @@ SoundDecided = (s : State) → Shaped s → T (isSound s) ↔ Sound s
 
 abbrev pub FoundingSound : Type 0
 FoundingSound = Sound founding
+
+-- "the record its relations have": two sound records with the same relations are one, their lists too
+abbrev pub RecordOfRelations : Type 0
+RecordOfRelations = (s t : State) → Sound s → Sound t → ((r : Relation) (i j : ℕ) → related s r i j ≡ related t r i j) → s ≡ t

@@ -40,7 +40,7 @@ pub record Valid (s : State) : Type 0 where
   pub exported : (o a : ℕ) → T (exports s o a) → T (access (lending s o) a)
 
 -- Sound. `shaped` is what the type of the record says in the code. "Each state has one record" needs no part of its own: a record holds its lists and
--- relations and nothing else (state, claim OneRecord).
+-- relations and nothing else (state, claim OneRecord), and in a sound one the relations fix the lists (Claims, RecordOfRelations).
 pub record Sound (s : State) : Type 0 where
   pub shaped : Shaped s
   pub consistent : Consistent s

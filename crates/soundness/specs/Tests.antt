@@ -1,5 +1,5 @@
--- The tests that decide soundness, part by part. Each walks the cells that are set, so that the checker can compute it. They are over lists of cells
--- and not over the record: what an update leaves alone is then the same test.
+-- The tests that decide soundness, part by part. Each walks the cells that are set, so that the checker can compute it. The shape is not tested: no record
+-- of the code is without it (Claims, SoundDecided).
 use Prim.Native.Nat.{ℕ}
 use mathlib.Core.Bool.{Bool, true, _&&_, _||_, not}
 use lib.Dec.{eqb}
