@@ -27,7 +27,7 @@ abbrev pub decodedAs : Bytes → Picked → Decoded
 decodedAs bytes unknown = NoCode
 decodedAs bytes (instruction x) = rangedAs x (fits (row x .operand) (bytes .b)) (bytes .activator) (bytes .a)
 
-unfoldable pub decodeOf : Bytes → Decoded
+abbrev pub decodeOf : Bytes → Decoded
 decodeOf bytes = decodedAs bytes (instructionOf (bytes .code))
 
 -- the paper's number for each case, 0 for bytes that fit

@@ -64,14 +64,13 @@ module _ (s : State) (bytes : Bytes) where
 
   pub step-misfit : (d : Decoded) → not (isSound s) ≡ false → d ≡ decodeOf bytes → eqb (decodedNumber d) 0 ≡ false
       → _≡_ {A = Outcome} (record { refusal = decodedNumber d; state = s }) (stepOf s bytes)
-  unfolding decodeOf
   step-misfit d e q z =
       refused (decodedNumber d) z
       (passed _ _ e ∙ first-misfit (instructionOf (bytes .code)) (ap (λ (k : Decoded). eqb (decodedNumber k) 0) (sym q) ∙ z) ∙ ap decodedNumber (sym q))
 
   pub step-fit : (x : Instruction) → not (isSound s) ≡ false → decodeOf bytes ≡ Fits x
       → decided s (successor s x (bytes .activator) (bytes .a) (bytes .b)) (firstMet (checks s x (bytes .activator) (bytes .a) (bytes .b))) ≡ stepOf s bytes
-  unfolding decodeOf stepOf refusalOf
+  unfolding stepOf refusalOf
   step-fit x e q =
       let f = first-fit x (instructionOf (bytes .code)) q in
       sym (ap (λ (n : ℕ). decided s (successorOf s bytes (instructionOf (bytes .code))) n) (passed _ _ e ∙ f .1)

@@ -14,7 +14,6 @@ use Rattle.instructions.proofs.decode.Tie as tie
 
 -- the code is n
 decoded-at : (n code u a b : ℕ) → code ≡ n → decodedAs (fourBytes code u a b) (instructionOf n) ≡ decodeOf (fourBytes code u a b)
-unfolding decodeOf
 decoded-at n code u a b e = ap (λ (k : ℕ). decodedAs (fourBytes code u a b) (instructionOf k)) (sym e)
 
 -- nothing is picked past the end
@@ -106,7 +105,6 @@ returns-13 : tie.Need-returns-13
 returns-13 c = decoded-at 0 _ _ _ _ (c .match .keys13)
 
 returns-14 : tie.Need-returns-14
-unfolding decodeOf
 returns-14 c =
     let n = c .before .args .code in
     let none = c .match .rest in
