@@ -1,149 +1,113 @@
-//! Times the library's access question beside a plain search in Rust, in one run.
+//! Times the library beside plain Rust on the same cells, in one run: the access question, and the step. Before that it compares the answers of the two on
+//! random instructions; an argument gives their number.
 
+mod agree;
+mod chance;
+mod library;
+mod plain;
+mod record;
+mod states;
+
+use chance::Chance;
+use plain::NO_ACCESS;
+use record::{Bytes, Record};
 use std::hint::black_box;
 use std::time::Instant;
 
-extern "C" {
-    // Declared as crates/probe/src/lib.rt has it: a slice is a pointer and a length, an array a pointer.
-    fn probe_steps(
-        definitions: *const bool,
-        definitions_len: usize,
-        structure: *const bool,
-        imports: *const bool,
-        imports_len: usize,
-        exports: *const bool,
-        exports_len: usize,
-        area: u8,
-        object: u8,
-    ) -> u8;
+const ROUNDS: usize = 25;
+const COMPARED: u32 = 40_000;
+
+/// How many turns take about 10 ms.
+fn turns_for(turns_of: &mut impl FnMut(u32)) -> u32 {
+    let began = Instant::now();
+    turns_of(100);
+    (1.0 / began.elapsed().as_secs_f64()).max(1.0) as u32
 }
 
-const NO_ACCESS: u8 = 255;
-const CALLS: u32 = 200_000;
-const ROUNDS: usize = 5;
-
-/// The four relations that access depends on, one cell for each pair.
-struct Site {
-    definitions: Vec<bool>,
-    structure: [bool; 1024],
-    imports: Vec<bool>,
-    exports: Vec<bool>,
+/// The time of one turn, in microseconds.
+fn time(turns_of: &mut impl FnMut(u32), turns: u32) -> f64 {
+    let began = Instant::now();
+    turns_of(turns);
+    began.elapsed().as_secs_f64() * 1e6 / f64::from(turns)
 }
 
-impl Site {
-    fn empty() -> Site {
-        Site {
-            definitions: vec![false; 2048],
-            structure: [false; 1024],
-            imports: vec![false; 2048],
-            exports: vec![false; 2048],
-        }
-    }
-
-    /// Area a lies in area a + 1; object 9 goes outward from area 0, object 10 inward from area 31.
-    fn chain() -> Site {
-        let mut site = Site::empty();
-        site.definitions[9 * 32] = true;
-        site.definitions[10 * 32 + 31] = true;
-        for a in 0..31 {
-            site.structure[a * 32 + a + 1] = true;
-            site.exports[9 * 32 + a] = true;
-            site.imports[10 * 32 + a] = true;
-        }
-        site
-    }
-
-    /// Every area lies in every area, and each imports and exports object 9.
-    fn dense() -> Site {
-        let mut site = Site::empty();
-        site.structure = [true; 1024];
-        site.definitions[9 * 32] = true;
-        site.imports[9 * 32..10 * 32].fill(true);
-        site.exports[9 * 32..10 * 32].fill(true);
-        site
-    }
-
-    /// Object 9 is defined in area 0, and no area lies in another.
-    fn flat() -> Site {
-        let mut site = Site::empty();
-        site.definitions[9 * 32] = true;
-        site
-    }
-
-    fn by_library(&self, area: u8, object: u8) -> u8 {
-        // SAFETY: each pointer is that of a live array of bools, handed over with its length; `structure` has 1,024.
-        unsafe {
-            probe_steps(
-                self.definitions.as_ptr(),
-                self.definitions.len(),
-                self.structure.as_ptr(),
-                self.imports.as_ptr(),
-                self.imports.len(),
-                self.exports.as_ptr(),
-                self.exports.len(),
-                area,
-                object,
-            )
-        }
-    }
-
-    /// A search with a queue on the same cells.
-    fn by_queue(&self, area: u8, object: u8) -> u8 {
-        let row = object as usize * 32;
-        let mut counts = [NO_ACCESS; 32];
-        let mut queue = [0usize; 32];
-        let (mut head, mut tail) = (0, 0);
-        for a in 0..32 {
-            if self.definitions[row + a] {
-                counts[a] = 0;
-                queue[tail] = a;
-                tail += 1;
-            }
-        }
-        while head < tail {
-            let s = queue[head];
-            head += 1;
-            for r in 0..32 {
-                let exported = self.exports[row + s] && self.structure[s * 32 + r];
-                let imported = self.imports[row + r] && self.structure[r * 32 + s];
-                if counts[r] == NO_ACCESS && (exported || imported) {
-                    counts[r] = counts[s] + 1;
-                    queue[tail] = r;
-                    tail += 1;
-                }
-            }
-        }
-        counts[area as usize]
-    }
-}
-
-/// The time of one call, in microseconds: the least of some rounds.
-fn time(mut call: impl FnMut() -> u8) -> f64 {
-    let mut best = f64::INFINITY;
+/// Times both by turns, so that a slow moment of the machine meets both alike, and prints the least time of each.
+fn race(name: &str, mut library: impl FnMut(u32), mut plain: impl FnMut(u32)) {
+    let (library_turns, plain_turns) = (turns_for(&mut library), turns_for(&mut plain));
+    let mut best = [f64::INFINITY; 2];
     for _ in 0..ROUNDS {
-        let began = Instant::now();
-        for _ in 0..CALLS {
-            black_box(call());
-        }
-        best = best.min(began.elapsed().as_secs_f64() * 1e6 / f64::from(CALLS));
+        best[0] = best[0].min(time(&mut library, library_turns));
+        best[1] = best[1].min(time(&mut plain, plain_turns));
     }
-    best
+    println!("bench {name}: library {:.2} us, plain {:.2} us, ratio {:.2}", best[0], best[1], best[0] / best[1]);
 }
 
-fn main() {
-    let (chain, dense, flat) = (Site::chain(), Site::dense(), Site::flat());
-    let cases: [(&str, &Site, u8, u8, u8); 5] = [
+fn time_access() {
+    let (chain, dense, flat) = (states::chain_access(), states::dense_access(), states::flat_access());
+    let cases: [(&str, &Record, u8, u8, u8); 5] = [
         ("chain outward", &chain, 31, 9, 31),
         ("chain inward", &chain, 0, 10, 31),
         ("dense", &dense, 31, 9, 1),
         ("no structure", &flat, 0, 9, 0),
         ("no definition", &flat, 0, 8, NO_ACCESS),
     ];
-    for (name, site, area, object, expected) in cases {
-        assert_eq!(site.by_library(area, object), expected, "{name}: the library");
-        assert_eq!(site.by_queue(area, object), expected, "{name}: the plain search");
-        let library = time(|| black_box(site).by_library(black_box(area), black_box(object)));
-        let plain = time(|| black_box(site).by_queue(black_box(area), black_box(object)));
-        println!("bench {name}: library {library:.2} us, plain {plain:.2} us, ratio {:.2}", library / plain);
+    for (name, s, area, object, expected) in cases {
+        assert_eq!(library::steps(s, area, object), expected, "{name}: the library");
+        assert_eq!(plain::steps(s, area, object), expected, "{name}: the plain search");
+        let by_library = |turns| {
+            for _ in 0..turns {
+                black_box(library::steps(black_box(s), black_box(area), black_box(object)));
+            }
+        };
+        let by_plain = |turns| {
+            for _ in 0..turns {
+                black_box(plain::steps(black_box(s), black_box(area), black_box(object)));
+            }
+        };
+        race(name, by_library, by_plain);
     }
+}
+
+fn time_step() {
+    let (dense, chain, random, small) = (states::dense(), states::chain(), states::random(6_000), states::small());
+    let cases: [(&str, &Record, Bytes); 8] = [
+        ("step dense, remove", &dense, [12, 0, 31, 63]),
+        ("step dense, add", &dense, [9, 0, 31, 63]),
+        ("step chain, remove", &chain, [12, 0, 30, 62]),
+        ("step chain, add", &chain, [11, 0, 31, 62]),
+        ("step random, remove", &random, acceptable(&random, 12)),
+        ("step random, add", &random, acceptable(&random, 9)),
+        ("step small, remove", &small, [10, 0, 0, 9]),
+        ("step small, add", &small, [11, 0, 2, 9]),
+    ];
+    for (name, s, bytes) in cases {
+        assert_eq!(agree::agreed(s, bytes).0, 0, "{name}");
+        let by_library = |turns| {
+            black_box(library::step(&mut black_box(s.clone()), bytes, turns));
+        };
+        let by_plain = |turns| {
+            for _ in 0..turns {
+                let _ = black_box(plain::step(black_box(s), black_box(bytes)));
+            }
+        };
+        race(name, by_library, by_plain);
+    }
+}
+
+/// An instruction with this code that the state accepts.
+fn acceptable(s: &Record, code: u8) -> Bytes {
+    let mut chance = Chance::new(3);
+    loop {
+        let bytes = chance.instruction(s, [32, 32, 64]);
+        if bytes[0] == code && plain::step(s, bytes).is_ok() {
+            return bytes;
+        }
+    }
+}
+
+fn main() {
+    let count = std::env::args().nth(1).map_or(COMPARED, |n| n.parse().expect("the number of instructions to compare"));
+    agree::compare(count);
+    time_access();
+    time_step();
 }

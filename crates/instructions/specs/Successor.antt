@@ -1,7 +1,8 @@
 -- What an instruction changes (document 01, 'The twelve instructions'): the state that it would give.
 use Prim.Native.Nat.{ℕ}
 use mathlib.Core.Bool.{Bool, true, false, _&&_}
-use Rattle.state.specs.Site.{user, area, object, listed, withListed, Relation, owner, definition, structure, import, export, withPair}
+use Rattle.state.specs.Cells.{Members, Pairs, member}
+use Rattle.state.specs.Site.{user, area, object, withListed, Relation, owner, definition, structure, import, export, withPair}
 use Rattle.state.specs.Walk.{hasFirst}
 use Rattle.state.specs.declared.State.{State}
 use Rattle.instructions.specs.Instructions.{Bytes, Target, theArea, pairOf, row, Picked, unknown, instruction, firstOf, secondOf}
@@ -12,8 +13,11 @@ abbrev pub withThePair : State → Relation → (a b : ℕ) → Bool → State
 withThePair s r a b v = withPair s r (firstOf r a b) (secondOf r a b) v
 
 -- "Codes 2 and 4 unlist a user who owns no area afterwards": he is listed afterwards if he was and owns an area.
+abbrev pub keepsListed : (users : Members) (owners : Pairs) → ℕ → Bool
+keepsListed users owners u = member users u && hasFirst owners u
+
 abbrev pub unlistIdle : State → ℕ → State
-unlistIdle s u = withListed s user u (listed s user u && hasFirst (s .owners) u)
+unlistIdle s u = withListed s user u (keepsListed (s .users) (s .owners) u)
 
 -- user u no longer owns area a
 abbrev pub withoutOwner : State → (u a : ℕ) → State

@@ -2,7 +2,7 @@
 ghost use mathlib.Core.Path.{_≡_};
 ghost use Rattle.instructions.specs.Instructions.{fourBytes};
 ghost use Rattle.instructions.specs.Decode.{rangedAs, decodeOf, decodedNumber};
-ghost use Rattle.instructions.specs.Successor.{withoutOwner, successor};
+ghost use Rattle.instructions.specs.Successor.{keepsListed, successor};
 use state::State;
 
 // The twelve instructions.
@@ -74,54 +74,51 @@ pub fn misfit(decoded: Decoded) -> u8
     }
 }
 
-// The state without the owner pair (user, area): the user is unlisted if that was his last.
-fn without_owner(s: State, user: u8, area: u8) -> State
-    ensures { λ r. ⌜ r ≡ withoutOwner s user area ⌝ }
+// Is the user listed after he lost an area? Only if he owns one still.
+fn keeps_listed<'a>(users: &'a [bool], owners: &'a [bool], user: u8) -> bool
+    ensures { λ r. ⌜ r ≡ keepsListed (now (users .entry)) (now (owners .entry)) user ⌝ }
 {
-    let mut next = s;
-    state::put_32(&mut next.owners, user, area, false);
-    let keeps = state::is_member(&next.users, user) & rows::in_row(&next.owners, user);
-    state::mark_32(&mut next.users, user, keeps);
-    next
+    state::is_member(users, user) & rows::in_row(owners, user)
 }
 
 // The state that the instruction would give, whatever the record and the numbers.
-pub fn successor(s: State, x: Instruction, u: u8, a: u8, b: u8) -> State
+pub fn successor(mut s: State, x: Instruction, u: u8, a: u8, b: u8) -> State
     ensures { λ r. ⌜ r ≡ successor s x u a b ⌝ }
 {
-    let mut next = s;
     match x {
         Instruction::ListArea => {
-            state::mark_32(&mut next.areas, a, true);
-            state::put_32(&mut next.owners, u, a, true);
+            state::mark_32(&mut s.areas, a, true);
+            state::put_32(&mut s.owners, u, a, true);
         }
         Instruction::UnlistArea => {
-            let less = without_owner(s, u, a);
-            next = less;
-            state::mark_32(&mut next.areas, a, false);
+            state::put_32(&mut s.owners, u, a, false);
+            let keeps = keeps_listed(&s.users, &s.owners, u);
+            state::mark_32(&mut s.users, u, keeps);
+            state::mark_32(&mut s.areas, a, false);
         }
         Instruction::AddOwner => {
-            state::mark_32(&mut next.users, b, true);
-            state::put_32(&mut next.owners, b, a, true);
+            state::mark_32(&mut s.users, b, true);
+            state::put_32(&mut s.owners, b, a, true);
         }
         Instruction::RemoveOwner => {
-            let less = without_owner(s, b, a);
-            next = less;
+            state::put_32(&mut s.owners, b, a, false);
+            let keeps = keeps_listed(&s.users, &s.owners, b);
+            state::mark_32(&mut s.users, b, keeps);
         }
-        Instruction::AddStructure => state::put_32(&mut next.structure, a, b, true),
-        Instruction::RemoveStructure => state::put_32(&mut next.structure, a, b, false),
+        Instruction::AddStructure => state::put_32(&mut s.structure, a, b, true),
+        Instruction::RemoveStructure => state::put_32(&mut s.structure, a, b, false),
         Instruction::Define => {
-            state::mark_64(&mut next.objects, b, true);
-            state::put_64(&mut next.definitions, b, a, true);
+            state::mark_64(&mut s.objects, b, true);
+            state::put_64(&mut s.definitions, b, a, true);
         }
         Instruction::RemoveDefinition => {
-            state::mark_64(&mut next.objects, b, false);
-            state::put_64(&mut next.definitions, b, a, false);
+            state::mark_64(&mut s.objects, b, false);
+            state::put_64(&mut s.definitions, b, a, false);
         }
-        Instruction::AddImport => state::put_64(&mut next.imports, b, a, true),
-        Instruction::RemoveImport => state::put_64(&mut next.imports, b, a, false),
-        Instruction::AddExport => state::put_64(&mut next.exports, b, a, true),
-        Instruction::RemoveExport => state::put_64(&mut next.exports, b, a, false),
+        Instruction::AddImport => state::put_64(&mut s.imports, b, a, true),
+        Instruction::RemoveImport => state::put_64(&mut s.imports, b, a, false),
+        Instruction::AddExport => state::put_64(&mut s.exports, b, a, true),
+        Instruction::RemoveExport => state::put_64(&mut s.exports, b, a, false),
     }
-    next
+    s
 }

@@ -7,11 +7,11 @@ use Rattle.state.specs.Tabulate.{tabulate, tabulateFrom}
 use Rattle.state.specs.Walk.{someFrom, someMember, somePair, count}
 use Rattle.access.specs.Lending.{step}
 use Rattle.access.specs.Answer.{longest, spread, reached, access}
-use Rattle.soundness.specs.Tests.{named, isConsistent, allOwn, allOwned, once, allDefined, isAcceptable, someListed, validOf, isSound}
+use Rattle.soundness.specs.Tests.{named, consistentOf, allOwn, allOwned, once, allDefined, acceptableOf, someListed, validOf, isSound}
 use Rattle.machine.specs.Refusals.{firstMet}
 use Rattle.machine.specs.Step.{refusalOf, stepOf}
 use Rattle.machine.specs.Examples
 
 pub papers-examples : Examples.PapersExamples
-unfolding member mark pair put empty founding tabulate tabulateFrom someFrom someMember somePair step longest spread reached access named isConsistent allOwn allOwned once allDefined isAcceptable someListed validOf isSound firstMet refusalOf stepOf count Examples.printed Examples.examples Examples.AllPrint
+unfolding member mark pair put empty founding tabulate tabulateFrom someFrom someMember somePair step longest spread reached access named consistentOf allOwn allOwned once allDefined acceptableOf someListed validOf isSound firstMet refusalOf stepOf count Examples.printed Examples.examples Examples.AllPrint
 papers-examples = (refl, (refl, (refl, (refl, (refl, (refl, (refl, (refl, (refl, (refl, (refl, tt)))))))))))

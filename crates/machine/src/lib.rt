@@ -4,11 +4,10 @@ ghost use mathlib.Core.Bool.{_&&_, not};
 ghost use Rattle.access.specs.Lending.{lending};
 ghost use Rattle.access.specs.Answer.{access};
 ghost use Rattle.instructions.specs.Instructions.{fourBytes, row};
-ghost use Rattle.instructions.specs.Successor.{successor};
 ghost use Rattle.instructions.specs.declared.Instruction.the-variants.{UnlistArea};
-ghost use Rattle.machine.specs.Refusals.{missingBy, entitledBy, presentBy, absentBy, firstMet, checks};
+ghost use Rattle.machine.specs.Refusals.{missingBy, entitledBy, presentBy, absentBy, firstMet};
 ghost use Rattle.machine.specs.Parts.{early, late, namesArea};
-ghost use Rattle.machine.specs.Step.{decided, stepOf, questionRefusals, replyOf, replyNumber};
+ghost use Rattle.machine.specs.Step.{stepOf, questionRefusals, replyOf, replyNumber};
 use access::Answer;
 use instructions::Decoded;
 use instructions::Instruction;
@@ -225,36 +224,17 @@ fn late_refusal(t: State, x: Instruction, a: u8, b: u8) -> u8
         Instruction::RemoveStructure
         | Instruction::RemoveDefinition
         | Instruction::RemoveImport
-        | Instruction::RemoveExport => { if soundness::is_valid(t) { 0 } else { 11 } }
+        | Instruction::RemoveExport => {
+            if soundness::objects_reached(&t.definitions, &t.structure, &t.imports, &t.exports) {
+                0
+            } else {
+                11
+            }
+        }
         Instruction::ListArea
         | Instruction::AddOwner
         | Instruction::AddStructure
         | Instruction::Define => 0,
-    }
-}
-
-// What an instruction gives in a sound state.
-fn judged(s: State, x: Instruction, u: u8, a: u8, b: u8) -> Outcome
-    ensures { λ r. ⌜ r ≡ decided s (successor s x u a b) (firstMet (checks s x u a b)) ⌝ }
-{
-    let early = early_refusal(s, x, u, a, b);
-    if early != 0 {
-        return Outcome {
-            refusal: early,
-            state: s,
-        };
-    }
-    let next = instructions::successor(s, x, u, a, b);
-    let late = late_refusal(next, x, a, b);
-    if late != 0 {
-        return Outcome {
-            refusal: late,
-            state: s,
-        };
-    }
-    Outcome {
-        refusal: 0,
-        state: next,
     }
 }
 
@@ -276,7 +256,25 @@ pub fn step(s: State, code: u8, activator: u8, a: u8, b: u8) -> Outcome
             state: s,
         };
     };
-    judged(s, x, activator, a, b)
+    let early = early_refusal(s, x, activator, a, b);
+    if early != 0 {
+        return Outcome {
+            refusal: early,
+            state: s,
+        };
+    }
+    let next = instructions::successor(s, x, activator, a, b);
+    let late = late_refusal(next, x, a, b);
+    if late != 0 {
+        return Outcome {
+            refusal: late,
+            state: s,
+        };
+    }
+    Outcome {
+        refusal: 0,
+        state: next,
+    }
 }
 
 // In how many steps has area a access to object b? Any record, and any numbers.

@@ -1,24 +1,24 @@
 -- The claims of specs/Claims.antt, each proved under its name, and what the tests over lists decide.
---     named-decided, once-decided     what a relation's pairs name is listed; there is exactly one pair
 -- Assumes nothing.
 use Prim.Native.Nat.{ℕ}
-use mathlib.Core.Path.{_≡_, refl, sym, subst}
+use mathlib.Core.Path.{_≡_, sym, subst}
 use mathlib.Core.Logic.{_↔_}
-use mathlib.Core.Bool.{Bool, true, _&&_, _||_, not}
+use mathlib.Core.Bool.{Bool, true, _&&_}
 use native.Mathlib.Omega.{arith}
-use borrow.Author.Tests.{eqb-true, eq-eqb}
 use lib.Dec.{T, eqb}
-use Rattle.state.specs.Cells.{Members, Pairs, member, pair}
+use Rattle.state.specs.Cells.{Members, member}
 use Rattle.state.specs.Walk.{eachPair, hasFirst, hasSecond}
 use Rattle.state.specs.Site.{Kind, user, area, object, Relation, owner, definition, structure, import, export, members, cells, firstKind, listed, related, owns, founding}
 use Rattle.state.specs.declared.State.{State}
-use Rattle.state.proofs.Bools.{and-both, and-left, and-right, is-true, holds, fails, same-test, implied, implies}
-use Rattle.state.proofs.Laws.{some-member, each-member, some-pair, each-pair, has-first, has-second, founding-listed, founding-owner, founding-no-pair, founding-shaped, one-record}
+use Rattle.state.proofs.Bools.{and-both, and-left, and-right, fails, same-test}
+use Rattle.state.proofs.Laws.{some-member, each-member, each-pair, has-first, has-second, founding-listed, founding-owner, founding-no-pair, founding-shaped, one-record}
 use Rattle.access.specs.Lending.{lending}
 use Rattle.access.specs.Answer.{access}
 use Rattle.soundness.specs.Sound.{Named, Consistent, Acceptable, Sound}
-use Rattle.soundness.specs.Tests.{named, isConsistent, allOwn, allOwned, once, allDefined, isAcceptable, someListed, validOf, isValid, isSound}
+use Rattle.soundness.specs.Tests.{named, consistentOf, isConsistent, allOwn, allOwned, once, allDefined, acceptableOf, isAcceptable, someListed, validOf, isValid, isSound}
 use Rattle.soundness.specs.Claims
+use Rattle.soundness.proofs.Tests.{named-decided, once-decided}
+use Rattle.soundness.proofs.Rows
 
 -- ---- valid
 pub valid-decided : Claims.ValidDecided
@@ -31,15 +31,10 @@ valid-decided s =
     let b = eachPair (s .exports) fits in
     (λ t. record { imported = im .0 (and-left a b t); exported = ex .0 (and-right a b t) }, λ v. and-both a b (im .1 (v .imported)) (ex .1 (v .exported)))
 
--- ---- consistent
-pub named-decided : (pairs : Pairs) (firsts areas : Members) → T (named pairs firsts areas) ↔ ((i j : ℕ) → T (pair pairs i j) → T (member firsts i) × T (member areas j))
-unfolding named
-named-decided pairs firsts areas =
-    let e = each-pair pairs (λ i j. member firsts i && member areas j) in (
-      λ t i j p. let b = e .0 t i j p in (and-left (member firsts i) (member areas j) b, and-right (member firsts i) (member areas j) b),
-      λ f. e .1 (λ i j p. let r = f i j p in and-both (member firsts i) (member areas j) (r .0) (r .1)),
-    )
+pub valid-by-objects : Claims.ValidByObjects
+valid-by-objects s shaped = Rows.valid-by-objects (s .definitions) (s .structure) (s .imports) (s .exports) (shaped .relations import) (shaped .relations export)
 
+-- ---- consistent
 -- what the pairs of one relation name is listed
 namedIn : State → Relation → Bool
 namedIn s r = named (cells s r) (members s (firstKind r)) (s .areas)
@@ -71,51 +66,14 @@ each-relation f = (there, λ e. and-both four (f export) (and-both three (f impo
     there t export = and-right four (f export) t
 
 consistent-decided : (s : State) → T (isConsistent s) ↔ Consistent s
-unfolding isConsistent namedIn
+unfolding consistentOf namedIn
 consistent-decided s =
     let e = each-relation (namedIn s) in
     (λ t r. relation-decided s r .0 (e .0 t r), λ c. e .1 (λ r. relation-decided s r .1 (c r)))
 
 -- ---- acceptable
--- there is exactly one pair with the first number i, and a is its area
-pub record Once (pairs : Pairs) (i : ℕ) : Type 0 where
-  pub place : ℕ
-  pub there : T (pair pairs i place)
-  pub only : (b : ℕ) → T (pair pairs i b) → b ≡ place
-
-equal : (m n : ℕ) → T (eqb m n) → m ≡ n
-equal m n t = eqb-true m n (is-true (eqb m n) t)
-
-same : (m n : ℕ) → m ≡ n → T (eqb m n)
-same m n e = holds (eq-eqb m n e)
-
--- each pair with the first number i has the area a
-only-decided : (pairs : Pairs) (i a : ℕ) → T (eachPair pairs (λ n b. not (eqb n i) || eqb b a)) ↔ ((b : ℕ) → T (pair pairs i b) → b ≡ a)
-only-decided pairs i a =
-    let e = each-pair pairs (λ n b. not (eqb n i) || eqb b a) in (
-      λ t b p. equal b a (implies (eqb i i) (eqb b a) (e .0 t i b p) (same i i refl)),
-      λ f. e .1 (λ n b p. implied (eqb n i) (eqb b a) (λ q. same b a (f b (rw (equal n i q) at p)))),
-    )
-
-pub once-decided : (pairs : Pairs) (i : ℕ) → T (once pairs i) ↔ Once pairs i
-unfolding once
-once-decided pairs i = (λ t. let r = e .0 t in there (r .0) (r .1) (r .2) (r .3), back)
-  where
-    only : ℕ → Bool
-    only a = eachPair pairs (λ n b. not (eqb n i) || eqb b a)
-
-    e : T (once pairs i) ↔ ((m : ℕ) × (a : ℕ) × T (pair pairs m a) × T (eqb m i && only a))
-    e = some-pair pairs (λ m a. eqb m i && only a)
-
-    there : (m a : ℕ) → T (pair pairs m a) → T (eqb m i && only a) → Once pairs i
-    there m a p t =
-        record { place = a; there = rw (equal m i (and-left (eqb m i) (only a) t)) at p; only = only-decided pairs i a .0 (and-right (eqb m i) (only a) t) }
-
-    back : Once pairs i → T (once pairs i)
-    back o = e .1 (i, o .place, o .there, and-both (eqb i i) (only (o .place)) (same i i refl) (only-decided pairs i (o .place) .1 (o .only)))
-
 acceptable-decided : (s : State) → T (isAcceptable s) ↔ Acceptable s
-unfolding isAcceptable allOwn allOwned allDefined
+unfolding acceptableOf allOwn allOwned allDefined
 acceptable-decided s = (
   λ t. record {
     users = λ u h. has-first (s .owners) u .0 (us .0 (and-left own owned (and-left (own && owned) defined t)) u h);

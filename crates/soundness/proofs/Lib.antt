@@ -1,4 +1,6 @@
--- Each has the laws of the tests and counts that the functions promise each other, Rows those that join them to the tests; both are this crate's own.
+-- Tests has what the tests over lists decide, Each the laws of the tests and counts that the functions promise each other, and Rows those that join the two; they
+-- are this crate's own.
+mod Tests
 mod Each
 mod Rows
 pub mod Laws

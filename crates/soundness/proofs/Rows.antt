@@ -27,7 +27,7 @@ use Rattle.access.proofs.Laws.{access-is-count, counts-of-rows}
 use Rattle.soundness.specs.Rows.{eachBelow, countBelow, cellNamed, cellReached, objectReached}
 use Rattle.soundness.specs.Tests.{named, allOwn, allOwned, once, validOf}
 use Rattle.soundness.proofs.Each.{each-goes, each-at, each-by, each-stop, each-done, Single, count-one, one-counted}
-use Rattle.soundness.proofs.Laws.{named-decided, Once, once-decided}
+use Rattle.soundness.proofs.Tests.{named-decided, Once, once-decided}
 
 -- ---- where what is there lies
 pub member-inside : (set : Members) (i : ℕ) → T (member set i) → i < length set

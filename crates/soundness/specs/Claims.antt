@@ -7,10 +7,15 @@ use lib.Dec.{T}
 use Rattle.state.specs.Site.{Relation, related, Shaped, founding}
 use Rattle.state.specs.declared.State.{State}
 use Rattle.soundness.specs.Sound.{Valid, Sound}
+use Rattle.soundness.specs.Rows.{objectsReached}
 use Rattle.soundness.specs.Tests.{isValid, isSound}
 
 abbrev pub ValidDecided : Type 0
 ValidDecided = (s : State) → T (isValid s) ↔ Valid s
+
+-- validity is that each of the 64 objects is reached wherever it is imported or exported, which is what `objects_reached` promises of the relations lent to it
+abbrev pub ValidByObjects : Type 0
+ValidByObjects = (s : State) → Shaped s → isValid s ≡ objectsReached (s .definitions) (s .structure) (s .imports) (s .exports)
 
 abbrev pub SoundDecided : Type 0
 SoundDecided = (s : State) → Shaped s → T (isSound s) ↔ Sound s

@@ -1,10 +1,12 @@
--- What the functions promise of the rows that they are handed: a test of each number, and a count.
-use Prim.Native.Nat.{ℕ, zero, suc, _+_}
+-- What the functions ask and promise of the rows that they are handed: their number, a test of each number, and a count.
+use Prim.Native.Nat.{ℕ, zero, suc, _+_, _*_}
+use mathlib.Core.Path.{_≡_}
 use mathlib.Core.Bool.{Bool, true, false, _&&_, _||_, not, cond}
 use mathlib.Core.List.{List}
 use lib.Dec.{eqb}
-use lib.ListN.{getD}
+use lib.ListN.{length, getD}
 use Rattle.state.specs.Cells.{Members, Pairs}
+use Rattle.state.specs.Site.{object, limit}
 use Rattle.rows.specs.Rows.{row}
 use Rattle.access.specs.Lending.{lendingOf}
 use Rattle.access.specs.Answer.{Areas, has, unreached, leastCounts}
@@ -30,3 +32,15 @@ cellReached imported exported counts a = not (has imported a || has exported a) 
 -- each area that imports or exports object o has a count
 unfoldable pub objectReached : (definitions structure imports exports : Pairs) → ℕ → Bool
 objectReached definitions structure imports exports o = eachBelow 32 (cellReached (row imports o) (row exports o) (leastCounts (lendingOf definitions structure imports exports o)))
+
+-- the same for all 64 objects
+abbrev pub objectsReached : (definitions structure imports exports : Pairs) → Bool
+objectsReached definitions structure imports exports = eachBelow (limit object) (objectReached definitions structure imports exports)
+
+-- each relation has a row for each number that may be its first
+pub record RowsFit (users areas objects : Members) (ow de st im ex : Pairs) : Type 0 where
+  pub owners : length ow ≡ length users * 32
+  pub definitions : length de ≡ length objects * 32
+  pub structure : length st ≡ length areas * 32
+  pub imports : length im ≡ length objects * 32
+  pub exports : length ex ≡ length objects * 32

@@ -13,10 +13,12 @@ use Rattle.access.specs.Answer.{access}
 unfoldable pub named : (pairs : Pairs) (firsts areas : Members) → Bool
 named pairs firsts areas = eachPair pairs (λ i j. member firsts i && member areas j)
 
-unfoldable pub isConsistent : State → Bool
-isConsistent s =
-    named (s .owners) (s .users) (s .areas) && named (s .definitions) (s .objects) (s .areas) && named (s .structure) (s .areas) (s .areas)
-    && named (s .imports) (s .objects) (s .areas) && named (s .exports) (s .objects) (s .areas)
+unfoldable pub consistentOf : (users areas objects : Members) (owners definitions structure imports exports : Pairs) → Bool
+consistentOf users areas objects owners definitions structure imports exports =
+    named owners users areas && named definitions objects areas && named structure areas areas && named imports objects areas && named exports objects areas
+
+abbrev pub isConsistent : State → Bool
+isConsistent s = consistentOf (s .users) (s .areas) (s .objects) (s .owners) (s .definitions) (s .structure) (s .imports) (s .exports)
 
 -- "every listed user owns an area"
 unfoldable pub allOwn : (users : Members) (owners : Pairs) → Bool
@@ -34,8 +36,11 @@ once pairs i = somePair pairs (λ m a. eqb m i && eachPair pairs (λ n b. not (e
 unfoldable pub allDefined : (objects : Members) (definitions : Pairs) → Bool
 allDefined objects definitions = eachMember objects (once definitions)
 
-unfoldable pub isAcceptable : State → Bool
-isAcceptable s = allOwn (s .users) (s .owners) && allOwned (s .areas) (s .owners) && allDefined (s .objects) (s .definitions)
+unfoldable pub acceptableOf : (users areas objects : Members) (owners definitions : Pairs) → Bool
+acceptableOf users areas objects owners definitions = allOwn users owners && allOwned areas owners && allDefined objects definitions
+
+abbrev pub isAcceptable : State → Bool
+isAcceptable s = acceptableOf (s .users) (s .areas) (s .objects) (s .owners) (s .definitions)
 
 -- "has at least one area"
 unfoldable pub someListed : Members → Bool

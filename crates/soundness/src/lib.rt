@@ -7,8 +7,8 @@ ghost use lib.ListN.{length};
 ghost use Rattle.rows.specs.Rows.{transpose};
 ghost use Rattle.access.specs.Answer.{has};
 ghost use Rattle.soundness.specs.Sound.{Valid, Sound};
-ghost use Rattle.soundness.specs.Tests.{named, allOwn, allDefined, someListed, isConsistent, isAcceptable, isValid, isSound};
-ghost use Rattle.soundness.specs.Rows.{eachBelow, countBelow, cellNamed, cellReached, objectReached};
+ghost use Rattle.soundness.specs.Tests.{named, allOwn, allDefined, someListed, consistentOf, acceptableOf, isValid, isSound};
+ghost use Rattle.soundness.specs.Rows.{eachBelow, countBelow, cellNamed, cellReached, objectReached, objectsReached, RowsFit};
 use state::State;
 
 // The count of an area that lacks access.
@@ -123,44 +123,68 @@ fn object_reached<'a>(
     all_reached(imported, exported, counts)
 }
 
-// For each import or export pair, has the area access to the object? Every object is asked about, listed or not: pairs of one that is not listed count.
-pub fn is_valid(s: State) -> bool
-    ensures equation { λ r. ⌜ r ≡ isValid s ⌝ }
-    ensures meaning { λ r. ⌜ T r ↔ Valid s ⌝ }
+// Is whatever a pair names listed?
+fn is_consistent<'a>(
+    users: &'a [bool],
+    areas: [bool; 32],
+    objects: &'a [bool],
+    owners: &'a [bool],
+    definitions: &'a [bool],
+    structure: &'a [bool],
+    imports: &'a [bool],
+    exports: &'a [bool],
+) -> bool
+    requires { ⌜ RowsFit (now users) areas (now objects) (now owners) (now definitions) (now structure) (now imports) (now exports) ⌝ }
+    ensures { λ r. ⌜ r ≡ consistentOf (now (users .entry)) areas (now (objects .entry)) (now (owners .entry)) (now (definitions .entry)) (now (structure .entry)) (now (imports .entry)) (now (exports .entry)) ⌝ }
 {
-    let transposed = rows::transposed(&s.structure);
+    let inner = areas;
+    all_named(owners, users, areas)
+        & all_named(definitions, objects, areas)
+        & all_named(structure, &inner, areas)
+        & all_named(imports, objects, areas)
+        & all_named(exports, objects, areas)
+}
+
+// Does every listed user own an area, has every listed area an owner, and is every listed object defined in exactly one area?
+fn is_acceptable<'a>(
+    users: [bool; 32],
+    areas: [bool; 32],
+    objects: [bool; 64],
+    owners: &'a [bool; 1024],
+    definitions: &'a [bool],
+) -> bool
+    requires { ⌜ length (now owners) ≡ 1024 ⌝ }
+    ensures { λ r. ⌜ r ≡ acceptableOf users areas objects (now (owners .entry)) (now (definitions .entry)) ⌝ }
+{
+    let turned = rows::transposed(owners);
+    all_own(users, owners) & all_own(areas, &turned) & all_defined(objects, definitions)
+}
+
+// For each import or export pair of the first 64 objects, has the area access to the object? Every object is asked about, listed or not: pairs of one that
+// is not listed count.
+pub fn objects_reached<'a>(
+    definitions: &'a [bool],
+    structure: &'a [bool; 1024],
+    imports: &'a [bool],
+    exports: &'a [bool],
+) -> bool
+    ensures { λ r. ⌜ r ≡ objectsReached (now (definitions .entry)) (now (structure .entry)) (now (imports .entry)) (now (exports .entry)) ⌝ }
+{
+    let transposed = rows::transposed(structure);
     for o in 0..State::OBJECTS {
-        if !object_reached(
-            &s.definitions,
-            &s.structure,
-            &transposed,
-            &s.imports,
-            &s.exports,
-            o,
-        ) {
+        if !object_reached(definitions, structure, &transposed, imports, exports, o) {
             return false;
         }
     }
     true
 }
 
-fn is_consistent(s: State) -> bool
-    ensures { λ r. ⌜ r ≡ isConsistent s ⌝ }
+// Is the record valid? Any content may be asked about.
+pub fn is_valid(s: State) -> bool
+    ensures equation { λ r. ⌜ r ≡ isValid s ⌝ }
+    ensures meaning { λ r. ⌜ T r ↔ Valid s ⌝ }
 {
-    let areas = s.areas;
-    all_named(&s.owners, &s.users, areas)
-        & all_named(&s.definitions, &s.objects, areas)
-        & all_named(&s.structure, &s.areas, areas)
-        & all_named(&s.imports, &s.objects, areas)
-        & all_named(&s.exports, &s.objects, areas)
-}
-
-fn is_acceptable(s: State) -> bool
-    ensures { λ r. ⌜ r ≡ isAcceptable s ⌝ }
-{
-    let owners = s.owners;
-    let turned = rows::transposed(&owners);
-    all_own(s.users, &owners) & all_own(s.areas, &turned) & all_defined(s.objects, &s.definitions)
+    objects_reached(&s.definitions, &s.structure, &s.imports, &s.exports)
 }
 
 // Is the record sound? Any content may be asked about.
@@ -168,14 +192,26 @@ pub fn is_sound(s: State) -> bool
     ensures equation { λ r. ⌜ r ≡ isSound s ⌝ }
     ensures meaning { λ r. ⌜ T r ↔ Sound s ⌝ }
 {
-    if !is_consistent(s) {
+    let areas = s.areas;
+    if !is_consistent(
+        &s.users,
+        areas,
+        &s.objects,
+        &s.owners,
+        &s.definitions,
+        &s.structure,
+        &s.imports,
+        &s.exports,
+    ) {
         return false;
     }
-    if !is_acceptable(s) {
+    let users = s.users;
+    let objects = s.objects;
+    if !is_acceptable(users, areas, objects, &s.owners, &s.definitions) {
         return false;
     }
     if !has_member(&s.areas) {
         return false;
     }
-    is_valid(s)
+    objects_reached(&s.definitions, &s.structure, &s.imports, &s.exports)
 }

@@ -6,6 +6,10 @@ use mathlib.Core.Bool.{Bool, true, false, not}
 use mathlib.Core.List.{[], _∷_}
 use borrow.Author.Needs.{needs}
 use Rattle.state.specs.declared.State.{State}
+use Rattle.state.proofs.Typed.{shaped-by-type}
+use Rattle.soundness.specs.Rows.{objectsReached}
+use Rattle.soundness.specs.Tests.{isValid}
+use Rattle.soundness.proofs.Laws.{valid-by-objects}
 use Rattle.machine.specs.Refusals.{_when_, firstMet}
 use Rattle.machine.specs.Parts.{late}
 use Rattle.instructions.specs.declared.Instruction.{Instruction}
@@ -38,6 +42,10 @@ module _ (p : Bool) where
 abbrev Is : (n : ℕ) (t : State) (a b : ℕ) → Instruction → Type 0
 Is n t a b y = n ≡ firstMet (late t y a b)
 
+-- validity by the objects
+valid-is : (c : tie.Start) → let t = c .args .t1 in isValid t ≡ objectsReached (t .definitions) (t .structure) (t .imports) (t .exports)
+valid-is c = valid-by-objects (c .args .t1) (shaped-by-type (c .args .t1) _ (c .good .0 .1 .1))
+
 enum-told : tie.Need-enum-told
 enum-told c = search needs
 
@@ -53,8 +61,8 @@ in-column-requires c κs = tt
 has-access-requires : tie.Need-has-access-requires
 has-access-requires c κs = tt
 
-is-valid-requires : tie.Need-is-valid-requires
-is-valid-requires c κs = tt
+objects-reached-requires : tie.Need-objects-reached-requires
+objects-reached-requires c κs = tt
 
 returns : tie.Need-returns
 returns c =
@@ -85,15 +93,17 @@ returns-5 c =
 
 returns-6 : tie.Need-returns-6
 returns-6 c =
-    let x = c .before .before .before .args in
-    let fine = no-11 _ (ap not (sym (c .before .is-valid .ensures .0) ∙ c .if3 .taken)) in
-    in-arm (Is 0 (x .t1) (x .a) (x .b)) (x .x) 5 (7 ∷ 9 ∷ 11 ∷ []) (c .before .before .match .keys4) (fine, (fine, (fine, (fine, tt))))
+    let start = c .before .before .before .before .before .before .before .before .before .before .before in
+    let x = start .args in
+    let fine = no-11 _ (ap not (valid-is start ∙ sym (c .before .objects-reached .ensures) ∙ c .if3 .taken)) in
+    in-arm (Is 0 (x .t1) (x .a) (x .b)) (x .x) 5 (7 ∷ 9 ∷ 11 ∷ []) (c .before .before .before .before .before .before .before .before .before .before .match .keys4) (fine, (fine, (fine, (fine, tt))))
 
 returns-7 : tie.Need-returns-7
 returns-7 c =
-    let x = c .before .before .before .args in
-    let refused = only-11 _ (ap not (sym (c .before .is-valid .ensures .0) ∙ c .if3 .left)) in
-    in-arm (Is 11 (x .t1) (x .a) (x .b)) (x .x) 5 (7 ∷ 9 ∷ 11 ∷ []) (c .before .before .match .keys4) (refused, (refused, (refused, (refused, tt))))
+    let start = c .before .before .before .before .before .before .before .before .before .before .before in
+    let x = start .args in
+    let refused = only-11 _ (ap not (valid-is start ∙ sym (c .before .objects-reached .ensures) ∙ c .if3 .left)) in
+    in-arm (Is 11 (x .t1) (x .a) (x .b)) (x .x) 5 (7 ∷ 9 ∷ 11 ∷ []) (c .before .before .before .before .before .before .before .before .before .before .match .keys4) (refused, (refused, (refused, (refused, tt))))
 
 returns-8 : tie.Need-returns-8
 returns-8 c =
@@ -110,7 +120,7 @@ late-refusal-spec =
     enum-told-2
     in-column-requires
     has-access-requires
-    is-valid-requires
+    objects-reached-requires
     returns
     returns-2
     returns-3

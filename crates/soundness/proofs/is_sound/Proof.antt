@@ -1,16 +1,18 @@
 -- `soundness::is_sound` meets its contract: the parts in the test's order, the first that fails decides.
 -- Assumes nothing.
-use mathlib.Core.Path.{_≡_, refl, sym, subst, _∙_}
+use Prim.Native.Nat.{ℕ, _*_}
+use mathlib.Core.Path.{_≡_, refl, sym, ap, subst, _∙_}
 use mathlib.Core.Logic.{_↔_}
 use mathlib.Core.Bool.{Bool, true, false, not}
 use borrow.Author.Tests.{not-true, not-false}
 use lib.Dec.{T}
-use Rattle.state.specs.Site.{Shaped}
+use lib.ListN.{length}
+use Rattle.state.specs.Site.{Relation, owner, definition, structure, import, export, firstKind, members, cells, Shaped}
 use Rattle.state.specs.declared.State.{State}
 use Rattle.state.proofs.Typed.{shaped-by-type}
 use Rattle.soundness.specs.Sound.{Sound}
 use Rattle.soundness.specs.Tests.{isConsistent, isAcceptable, someListed, isValid, isSound}
-use Rattle.soundness.proofs.Laws.{sound-decided}
+use Rattle.soundness.proofs.Laws.{valid-by-objects, sound-decided}
 use Rattle.soundness.proofs.is_sound.Statement.{statement}
 use Rattle.soundness.proofs.is_sound.Tie as tie
 
@@ -45,50 +47,48 @@ module _ (s : State) (shaped : Shaped s) where
 shaped : (c : tie.Start) → Shaped (c .args .t1)
 shaped c = shaped-by-type (c .args .t1) _ (c .good .0 .1 .1)
 
-consistent : (c : tie.Else1) → isConsistent (c .before .before .args .t1) ≡ true
+-- each relation has a row for each number that may be its first
+rows : (c : tie.Start) (r : Relation) → length (cells (c .args .t1) r) ≡ length (members (c .args .t1) (firstKind r)) * 32
+rows c r = shaped c .relations r ∙ ap (λ (n : ℕ). n * 32) (sym (shaped c .sets (firstKind r)))
+
+consistent : (c : tie.Else1) → isConsistent (c .before .before .before .before .before .before .before .before .before .before .before .before .before .before .before .before .before .before .args .t1) ≡ true
 consistent c = yes-so _ (c .before .is-consistent .ensures) (c .if1 .left)
 
-acceptable : (c : tie.Else2) → isAcceptable (c .before .before .before .before .args .t1) ≡ true
+acceptable : (c : tie.Else2) → isAcceptable (c .before .before .before .before .before .before .before .before .before .before .before .before .before .before .before .before .before .before .before .before .before .before .before .before .before .before .args .t1) ≡ true
 acceptable c = yes-so _ (c .before .is-acceptable .ensures) (c .if2 .left)
 
 is-consistent-requires : tie.Need-is-consistent-requires
-is-consistent-requires c κs = tt
+is-consistent-requires c κs =
+    let fit = rows (c .before .before .before .before .before .before .before .before .before .before .before .before .before .before .before .before) in
+    record { owners = fit owner; definitions = fit definition; structure = fit structure; imports = fit import; exports = fit export }
 
 returns : tie.Need-returns
-returns c =
-    let start = c .before .before in
-    promised _ (shaped start) _ (inconsistent _ (shaped start) (no _ (c .before .is-consistent .ensures) (c .if1 .taken)))
+returns c = promised _ (shaped (c .before .before .before .before .before .before .before .before .before .before .before .before .before .before .before .before .before .before)) _ (inconsistent _ (shaped (c .before .before .before .before .before .before .before .before .before .before .before .before .before .before .before .before .before .before)) (no _ (c .before .is-consistent .ensures) (c .if1 .taken)))
 
 is-acceptable-requires : tie.Need-is-acceptable-requires
-is-acceptable-requires c κs = tt
+is-acceptable-requires c κs = shaped (c .before .before .before .before .before .before .before .before .before .before .before .before .before .before .before .before .before .before .before .before .before .before .before .before) .relations owner
 
 returns-2 : tie.Need-returns-2
 returns-2 c =
-    let first = c .before .before in
-    let whole = shaped (first .before .before) in
-    promised _ whole _ (unacceptable _ whole (consistent first) (no _ (c .before .is-acceptable .ensures) (c .if2 .taken)))
+    let whole = shaped (c .before .before .before .before .before .before .before .before .before .before .before .before .before .before .before .before .before .before .before .before .before .before .before .before .before .before) in
+    promised _ whole _ (unacceptable _ whole (consistent (c .before .before .before .before .before .before .before .before)) (no _ (c .before .is-acceptable .ensures) (c .if2 .taken)))
 
 has-member-requires : tie.Need-has-member-requires
 has-member-requires c κs = tt
 
 returns-3 : tie.Need-returns-3
 returns-3 c =
-    let second = c .before .before .before .before .before in
-    let first = second .before .before in
-    let whole = shaped (first .before .before) in
-    promised _ whole _ (no-area _ whole (consistent first) (acceptable second) (no _ (c .before .has-member .ensures) (c .if3 .taken)))
+    let whole = shaped (c .before .before .before .before .before .before .before .before .before .before .before .before .before .before .before .before .before .before .before .before .before .before .before .before .before .before .before .before .before .before .before) in
+    promised _ whole _ (no-area _ whole (consistent (c .before .before .before .before .before .before .before .before .before .before .before .before .before)) (acceptable (c .before .before .before .before .before)) (no _ (c .before .has-member .ensures) (c .if3 .taken)))
 
-is-valid-requires : tie.Need-is-valid-requires
-is-valid-requires c κs = tt
+objects-reached-requires : tie.Need-objects-reached-requires
+objects-reached-requires c κs = tt
 
 returns-4 : tie.Need-returns-4
 returns-4 c =
-    let third = c .before .before in
-    let second = third .before .before .before .before in
-    let first = second .before .before in
-    let whole = shaped (first .before .before) in
+    let whole = shaped (c .before .before .before .before .before .before .before .before .before .before .before .before .before .before .before .before .before .before .before .before .before .before .before .before .before .before .before .before .before .before .before .before .before .before .before .before .before .before .before .before) in
     promised _ whole _
-    (c .is-valid .ensures .0 ∙ if-valid _ whole (consistent first) (acceptable second) (yes-so _ (third .has-member .ensures) (c .before .if3 .left)))
+    (c .objects-reached .ensures ∙ sym (valid-by-objects _ whole) ∙ if-valid _ whole (consistent (c .before .before .before .before .before .before .before .before .before .before .before .before .before .before .before .before .before .before .before .before .before .before)) (acceptable (c .before .before .before .before .before .before .before .before .before .before .before .before .before .before)) (yes-so _ (c .before .before .before .before .before .before .before .before .before .before .has-member .ensures) (c .before .before .before .before .before .before .before .before .before .if3 .left)))
 
 pub is-sound-spec : {M : Type 1} → statement M
 is-sound-spec =
@@ -100,5 +100,5 @@ is-sound-spec =
     returns-2
     has-member-requires
     returns-3
-    is-valid-requires
+    objects-reached-requires
     returns-4)
