@@ -21,9 +21,13 @@ use Rattle.machine.specs.declared.Reply.the-variants.{Refused, Answered}
 unfoldable pub refusalOf : State → Bytes → ℕ
 refusalOf s bytes = firstMet (refusals s bytes)
 
+-- the number 0 or that of the refusal, and the state after the instruction
+abbrev pub outcomeOf : ℕ → State → Outcome
+outcomeOf n s = record { refusal = n; state = s }
+
 -- the state t that an instruction gives from s if it is accepted; "The state after a refusal is the state given."
 abbrev pub decided : State → State → ℕ → Outcome
-decided s t n = record { refusal = n; state = cond (eqb n 0) t s }
+decided s t n = outcomeOf n (cond (eqb n 0) t s)
 
 -- four bytes and a record, of any content: one successor state or one refusal number
 unfoldable pub stepOf : State → Bytes → Outcome

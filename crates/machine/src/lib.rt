@@ -1,13 +1,14 @@
 // The machine: any four bytes with any record get one successor state or one refusal number.
 ghost use mathlib.Core.Path.{_≡_};
 ghost use mathlib.Core.Bool.{_&&_, not};
+ghost use Rattle.state.specs.Site.{recordOf};
 ghost use Rattle.access.specs.Lending.{lending};
 ghost use Rattle.access.specs.Answer.{access};
 ghost use Rattle.instructions.specs.Instructions.{fourBytes, row};
 ghost use Rattle.instructions.specs.declared.Instruction.the-variants.{UnlistArea};
 ghost use Rattle.machine.specs.Refusals.{missingBy, entitledBy, presentBy, absentBy, firstMet};
 ghost use Rattle.machine.specs.Parts.{early, late, namesArea};
-ghost use Rattle.machine.specs.Step.{stepOf, questionRefusals, replyOf, replyNumber};
+ghost use Rattle.machine.specs.Step.{outcomeOf, stepOf, questionRefusals, replyOf, replyNumber};
 use access::Answer;
 use instructions::Decoded;
 use instructions::Instruction;
@@ -122,33 +123,46 @@ fn is_absent(
 }
 
 // The refusal of an instruction from 3 to 7, 0 if there is none of these.
-fn early_refusal(s: State, x: Instruction, u: u8, a: u8, b: u8) -> u8
-    ensures { λ r. ⌜ r ≡ firstMet (early s x u a b) ⌝ }
+fn early_refusal<'a>(
+    users: &'a [bool],
+    areas: &'a [bool],
+    objects: &'a [bool],
+    owners: &'a [bool],
+    definitions: &'a [bool],
+    structure: &'a [bool],
+    imports: &'a [bool],
+    exports: &'a [bool],
+    x: Instruction,
+    u: u8,
+    a: u8,
+    b: u8,
+) -> u8
+    ensures { λ r. ⌜ r ≡ firstMet (early (recordOf (now (users .entry)) (now (areas .entry)) (now (objects .entry)) (now (owners .entry)) (now (definitions .entry)) (now (structure .entry)) (now (imports .entry)) (now (exports .entry))) x u a b) ⌝ }
 {
-    if !state::is_member(&s.users, u) {
+    if !state::is_member(users, u) {
         return 3;
     }
-    let area = state::is_member(&s.areas, a);
-    let user = area & state::is_member(&s.users, b);
-    let outer = area & state::is_member(&s.areas, b);
-    let listed = state::is_member(&s.objects, b);
+    let area = state::is_member(areas, a);
+    let user = area & state::is_member(users, b);
+    let outer = area & state::is_member(areas, b);
+    let listed = state::is_member(objects, b);
     let object = area & listed;
     if is_missing(x, area, user, outer, object) {
         return 4;
     }
-    let own = state::is_pair(&s.owners, u, a);
-    let other = state::is_pair(&s.owners, u, b);
+    let own = state::is_pair(owners, u, a);
+    let other = state::is_pair(owners, u, b);
     if !is_entitled(x, own, own & other, own | other) {
         return 5;
     }
-    let owned = state::is_pair(&s.owners, b, a);
-    let inside = state::is_pair(&s.structure, a, b);
-    let imported = state::is_pair(&s.imports, b, a);
-    let exported = state::is_pair(&s.exports, b, a);
+    let owned = state::is_pair(owners, b, a);
+    let inside = state::is_pair(structure, a, b);
+    let imported = state::is_pair(imports, b, a);
+    let exported = state::is_pair(exports, b, a);
     if is_repeated(x, area, listed, owned, inside, imported, exported) {
         return 6;
     }
-    let defined = state::is_pair(&s.definitions, b, a);
+    let defined = state::is_pair(definitions, b, a);
     if is_absent(x, owned, defined, inside, imported, exported) {
         return 7;
     }
@@ -238,43 +252,59 @@ fn late_refusal(t: State, x: Instruction, a: u8, b: u8) -> u8
     }
 }
 
+// The outcome with this number and state.
+fn outcome_of(refusal: u8, state: State) -> Outcome
+    ensures { λ r. ⌜ r ≡ outcomeOf refusal state ⌝ }
+{
+    Outcome {
+        refusal: refusal,
+        state: state,
+    }
+}
+
 // What four bytes give with a record, both of any content.
 pub fn step(s: State, code: u8, activator: u8, a: u8, b: u8) -> Outcome
     ensures { λ r. ⌜ r ≡ stepOf s (fourBytes code activator a b) ⌝ }
 {
-    if !soundness::is_sound(s) {
-        return Outcome {
-            refusal: 12,
-            state: s,
-        };
+    if !soundness::are_sound(
+        &s.users,
+        &s.areas,
+        &s.objects,
+        &s.owners,
+        &s.definitions,
+        &s.structure,
+        &s.imports,
+        &s.exports,
+    ) {
+        return outcome_of(12, s);
     }
     let decoded = instructions::decode(code, activator, a, b);
     let Decoded::Fits(x) = decoded else {
-        let refusal = instructions::misfit(decoded);
-        return Outcome {
-            refusal: refusal,
-            state: s,
-        };
+        return outcome_of(instructions::misfit(decoded), s);
     };
-    let early = early_refusal(s, x, activator, a, b);
+    let early = early_refusal(
+        &s.users,
+        &s.areas,
+        &s.objects,
+        &s.owners,
+        &s.definitions,
+        &s.structure,
+        &s.imports,
+        &s.exports,
+        x,
+        activator,
+        a,
+        b,
+    );
     if early != 0 {
-        return Outcome {
-            refusal: early,
-            state: s,
-        };
+        return outcome_of(early, s);
     }
     let next = instructions::successor(s, x, activator, a, b);
     let late = late_refusal(next, x, a, b);
     if late != 0 {
-        return Outcome {
-            refusal: late,
-            state: s,
-        };
+        return outcome_of(late, s);
     }
-    Outcome {
-        refusal: 0,
-        state: next,
-    }
+    outcome_of(0, next)
 }
 
 // In how many steps has area a access to object b? Any record, and any numbers.

@@ -3,8 +3,8 @@ ghost use mathlib.Core.Path.{_≡_};
 ghost use Rattle.access.specs.Lending.{lendingOf};
 ghost use Rattle.access.specs.Answer.{answer, number};
 ghost use Rattle.instructions.specs.Instructions.{fourBytes};
-ghost use Rattle.machine.specs.Step.{stepOf};
-ghost use Rattle.probe.specs.Record.{recordOf, outcomeOf};
+ghost use Rattle.machine.specs.Step.{outcomeOf, stepOf};
+ghost use Rattle.state.specs.Site.{recordOf};
 use access::Answer;
 use state::State;
 

@@ -1,7 +1,7 @@
 -- The claims of specs/Claims.antt, each proved under its name, and what the tests over lists decide.
 -- Assumes nothing.
 use Prim.Native.Nat.{ℕ}
-use mathlib.Core.Path.{_≡_, sym, subst}
+use mathlib.Core.Path.{_≡_, refl, sym, subst}
 use mathlib.Core.Logic.{_↔_}
 use mathlib.Core.Bool.{Bool, true, _&&_}
 use native.Mathlib.Omega.{arith}
@@ -16,9 +16,11 @@ use Rattle.access.specs.Lending.{lending}
 use Rattle.access.specs.Answer.{access}
 use Rattle.soundness.specs.Sound.{Named, Consistent, Acceptable, Sound}
 use Rattle.soundness.specs.Tests.{named, consistentOf, isConsistent, allOwn, allOwned, once, allDefined, acceptableOf, isAcceptable, someListed, validOf, isValid, isSound}
+use Rattle.soundness.specs.Rows.{soundOf}
 use Rattle.soundness.specs.Claims
 use Rattle.soundness.proofs.Tests.{named-decided, once-decided}
 use Rattle.soundness.proofs.Rows
+use Rattle.soundness.proofs.Shape.{shape-holds}
 
 -- ---- valid
 pub valid-decided : Claims.ValidDecided
@@ -202,3 +204,8 @@ record-of-relations s t h k e =
       lists = λ l i inside. same-test (listed s l i) (listed t l i) (lists-follow s t h k e l i) (lists-follow t s k h (λ r m n. sym (e r m n)) l i);
       pairs = λ r i j hi hj. e r i j;
     })
+
+-- ---- the arrays of a record
+pub sound-of-record : Claims.SoundOfRecord
+unfolding isSound soundOf
+sound-of-record s shaped = rw (shape-holds s shaped, valid-by-objects s shaped) refl

@@ -3,4 +3,5 @@
 mod Tests
 mod Each
 mod Rows
+mod Shape
 pub mod Laws

@@ -7,7 +7,7 @@ use lib.Dec.{T}
 use Rattle.state.specs.Site.{Relation, related, Shaped, founding}
 use Rattle.state.specs.declared.State.{State}
 use Rattle.soundness.specs.Sound.{Valid, Sound}
-use Rattle.soundness.specs.Rows.{objectsReached}
+use Rattle.soundness.specs.Rows.{objectsReached, soundOf}
 use Rattle.soundness.specs.Tests.{isValid, isSound}
 
 abbrev pub ValidDecided : Type 0
@@ -19,6 +19,10 @@ ValidByObjects = (s : State) → Shaped s → isValid s ≡ objectsReached (s .d
 
 abbrev pub SoundDecided : Type 0
 SoundDecided = (s : State) → Shaped s → T (isSound s) ↔ Sound s
+
+-- what `are_sound` promises of the arrays lent to it is soundness, where they are a record's
+abbrev pub SoundOfRecord : Type 0
+SoundOfRecord = (s : State) → Shaped s → isSound s ≡ soundOf (s .users) (s .areas) (s .objects) (s .owners) (s .definitions) (s .structure) (s .imports) (s .exports)
 
 abbrev pub FoundingSound : Type 0
 FoundingSound = Sound founding

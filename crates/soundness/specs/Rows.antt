@@ -10,6 +10,7 @@ use Rattle.state.specs.Site.{object, limit}
 use Rattle.rows.specs.Rows.{row}
 use Rattle.access.specs.Lending.{lendingOf}
 use Rattle.access.specs.Answer.{Areas, has, unreached, leastCounts}
+use Rattle.soundness.specs.Tests.{consistentOf, acceptableOf, someListed}
 
 -- each number below n meets the test
 unfoldable pub eachBelow : ℕ → (ℕ → Bool) → Bool
@@ -44,3 +45,15 @@ pub record RowsFit (users areas objects : Members) (ow de st im ex : Pairs) : Ty
   pub structure : length st ≡ length areas * 32
   pub imports : length im ≡ length objects * 32
   pub exports : length ex ≡ length objects * 32
+
+-- each set and relation has its number of cells
+abbrev pub shapedOf : (users areas objects : Members) (ow de st im ex : Pairs) → Bool
+shapedOf users areas objects ow de st im ex =
+    eqb (length users) 32 && eqb (length areas) 32 && eqb (length objects) 64 && eqb (length ow) 1024 && eqb (length de) 2048 && eqb (length st) 1024
+    && eqb (length im) 2048 && eqb (length ex) 2048
+
+-- the eight lists are those of a sound record
+unfoldable pub soundOf : (users areas objects : Members) (ow de st im ex : Pairs) → Bool
+soundOf users areas objects ow de st im ex =
+    shapedOf users areas objects ow de st im ex && consistentOf users areas objects ow de st im ex && acceptableOf users areas objects ow de && someListed areas
+    && objectsReached de st im ex

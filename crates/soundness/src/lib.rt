@@ -8,7 +8,7 @@ ghost use Rattle.rows.specs.Rows.{transpose};
 ghost use Rattle.access.specs.Answer.{has};
 ghost use Rattle.soundness.specs.Sound.{Valid, Sound};
 ghost use Rattle.soundness.specs.Tests.{named, allOwn, allDefined, someListed, consistentOf, acceptableOf, isValid, isSound};
-ghost use Rattle.soundness.specs.Rows.{eachBelow, countBelow, cellNamed, cellReached, objectReached, objectsReached, RowsFit};
+ghost use Rattle.soundness.specs.Rows.{eachBelow, countBelow, cellNamed, cellReached, objectReached, objectsReached, shapedOf, soundOf, RowsFit};
 use state::State;
 
 // The count of an area that lacks access.
@@ -187,31 +187,88 @@ pub fn is_valid(s: State) -> bool
     objects_reached(&s.definitions, &s.structure, &s.imports, &s.exports)
 }
 
+// Has every set and every relation the number of cells that its type says? In the logic a lent array has any length.
+fn is_shaped<'a>(
+    users: &'a [bool],
+    areas: &'a [bool],
+    objects: &'a [bool],
+    owners: &'a [bool],
+    definitions: &'a [bool],
+    structure: &'a [bool],
+    imports: &'a [bool],
+    exports: &'a [bool],
+) -> bool
+    ensures { λ r. ⌜ r ≡ shapedOf (now (users .entry)) (now (areas .entry)) (now (objects .entry)) (now (owners .entry)) (now (definitions .entry)) (now (structure .entry)) (now (imports .entry)) (now (exports .entry)) ⌝ }
+{
+    (users.len() == 32)
+        & (areas.len() == 32)
+        & (objects.len() == 64)
+        & (owners.len() == 1024)
+        & (definitions.len() == 2048)
+        & (structure.len() == 1024)
+        & (imports.len() == 2048)
+        & (exports.len() == 2048)
+}
+
+// Is the record sound that the eight arrays hold? For whoever has the record and lends it, so that it is not copied.
+pub fn are_sound<'a>(
+    users: &'a [bool; 32],
+    areas: &'a [bool; 32],
+    objects: &'a [bool; 64],
+    owners: &'a [bool; 1024],
+    definitions: &'a [bool; 2048],
+    structure: &'a [bool; 1024],
+    imports: &'a [bool; 2048],
+    exports: &'a [bool; 2048],
+) -> bool
+    ensures { λ r. ⌜ r ≡ soundOf (now (users .entry)) (now (areas .entry)) (now (objects .entry)) (now (owners .entry)) (now (definitions .entry)) (now (structure .entry)) (now (imports .entry)) (now (exports .entry)) ⌝ }
+{
+    if !is_shaped(
+        users,
+        areas,
+        objects,
+        owners,
+        definitions,
+        structure,
+        imports,
+        exports,
+    ) {
+        return false;
+    }
+    if !is_consistent(
+        users,
+        *areas,
+        objects,
+        owners,
+        definitions,
+        structure,
+        imports,
+        exports,
+    ) {
+        return false;
+    }
+    if !is_acceptable(*users, *areas, *objects, owners, definitions) {
+        return false;
+    }
+    if !has_member(areas) {
+        return false;
+    }
+    objects_reached(definitions, structure, imports, exports)
+}
+
 // Is the record sound? Any content may be asked about.
 pub fn is_sound(s: State) -> bool
     ensures equation { λ r. ⌜ r ≡ isSound s ⌝ }
     ensures meaning { λ r. ⌜ T r ↔ Sound s ⌝ }
 {
-    let areas = s.areas;
-    if !is_consistent(
+    are_sound(
         &s.users,
-        areas,
+        &s.areas,
         &s.objects,
         &s.owners,
         &s.definitions,
         &s.structure,
         &s.imports,
         &s.exports,
-    ) {
-        return false;
-    }
-    let users = s.users;
-    let objects = s.objects;
-    if !is_acceptable(users, areas, objects, &s.owners, &s.definitions) {
-        return false;
-    }
-    if !has_member(&s.areas) {
-        return false;
-    }
-    objects_reached(&s.definitions, &s.structure, &s.imports, &s.exports)
+    )
 }

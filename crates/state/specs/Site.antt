@@ -3,6 +3,7 @@
 --     Relation, firstKind, related, withPair      the five relations
 --     owns, defines, inside, imports, exports     the relations by the paper's words
 --     founding                                    the founding state
+--     recordOf                                    a record from its parts
 --     Shaped                                      every set and relation has its number of cells
 use Prim.Native.Nat.{ℕ, _*_}
 use mathlib.Core.Path.{_≡_}
@@ -11,6 +12,11 @@ use lib.Dec.{eqb}
 use lib.ListN.{length, replicate}
 use Rattle.state.specs.Cells.{Members, Pairs, width, member, mark, pair, put}
 use Rattle.state.specs.declared.State.{State}
+
+-- the record of three sets and five relations
+abbrev pub recordOf : (users areas objects : Members) (owners definitions structures imported exported : Pairs) → State
+recordOf users areas objects owners definitions structures imported exported =
+    record { users = users; areas = areas; objects = objects; owners = owners; definitions = definitions; structure = structures; imports = imported; exports = exported }
 
 -- "listed users, areas and objects"
 pub data Kind : Type 0 where

@@ -2,7 +2,9 @@
 -- Assumes nothing.
 use mathlib.Core.Path.{_≡_, sym, ap, _∙_}
 use mathlib.Core.Bool.{false, _&&_, _||_, not}
-use Rattle.state.specs.Site.{user, listed}
+use denote.Ref.{now}
+use Rattle.state.specs.Site.{user, listed, recordOf}
+use Rattle.state.specs.declared.State.{State}
 use Rattle.instructions.specs.Instructions.{row}
 use Rattle.machine.specs.Refusals.{missing, missingBy, entitled, entitledBy, present, presentBy, absent, absentBy}
 use Rattle.machine.proofs.First.{met, passed, none-met}
@@ -57,86 +59,92 @@ is-pair-requires-7 c κs = tt
 is-absent-requires : tie.Need-is-absent-requires
 is-absent-requires c κs = tt
 
+-- the record that is lent
+abbrev lent : tie.Start → State
+lent c =
+    recordOf (now (c .args .users)) (now (c .args .areas)) (now (c .args .objects)) (now (c .args .owners)) (now (c .args .definitions)) (now (c .args .structure))
+    (now (c .args .imports)) (now (c .args .exports))
+
 -- ---- what is tested
-known-is : (c : tie.After-is-member) → c .is-member .result ≡ listed (c .before .before .before .before .args .t1) user (c .before .before .before .before .args .u)
+known-is : (c : tie.After-is-member) → c .is-member .result ≡ listed (lent (c .before .before .before .before .before .before .before .before .before)) user (c .before .before .before .before .before .before .before .before .before .args .u)
 known-is c = c .is-member .ensures
 
-missing-is : (c : tie.After-is-missing) → let at = c .before .before .before .before .before .before .before .before .before .before .before .before .before .before .before .before .before .before .before .before .before .before .args in c .is-missing .result ≡ missing (at .t1) (row (at .x) .lookup) (at .a) (at .b)
+missing-is : (c : tie.After-is-missing) → let at = c .before .before .before .before .before .before .before .before .before .before .before .before .before .before .before .args in c .is-missing .result ≡ missing (lent (c .before .before .before .before .before .before .before .before .before .before .before .before .before .before .before)) (row (at .x) .lookup) (at .a) (at .b)
 missing-is c =
-    let at = c .before .before .before .before .before .before .before .before .before .before .before .before .before .before .before .before .before .before .before .before .before .before .args in
+    let at = c .before .before .before .before .before .before .before .before .before .before .before .before .before .before .before .args in
     let object = c .before .is-member5 .ensures in
-    let outer = c .before .before .before .before .before .is-member4 .ensures in
-    let second = c .before .before .before .before .before .before .before .before .before .is-member3 .ensures in
-    let place = c .before .before .before .before .before .before .before .before .before .before .before .before .before .is-member2 .ensures in
+    let outer = c .before .before .is-member4 .ensures in
+    let second = c .before .before .before .is-member3 .ensures in
+    let place = c .before .before .before .before .is-member2 .ensures in
     c .is-missing .ensures ∙ λ i. missingBy (row (at .x) .lookup) (place i) (place i && second i) (place i && outer i) (place i && object i)
 
-entitled-is : (c : tie.After-is-entitled) → let at = c .before .before .before .before .before .before .before .before .before .before .before .before .before .before .before .before .before .before .before .before .before .before .before .before .before .before .before .before .before .before .before .before .args in c .is-entitled .result ≡ entitled (at .t1) (row (at .x) .mustOwn) (at .u) (at .a) (at .b)
+entitled-is : (c : tie.After-is-entitled) → let at = c .before .before .before .before .before .before .before .before .before .before .before .before .before .before .before .before .before .before .before .args in c .is-entitled .result ≡ entitled (lent (c .before .before .before .before .before .before .before .before .before .before .before .before .before .before .before .before .before .before .before)) (row (at .x) .mustOwn) (at .u) (at .a) (at .b)
 entitled-is c =
-    let at = c .before .before .before .before .before .before .before .before .before .before .before .before .before .before .before .before .before .before .before .before .before .before .before .before .before .before .before .before .before .before .before .before .args in
+    let at = c .before .before .before .before .before .before .before .before .before .before .before .before .before .before .before .before .before .before .before .args in
     let other = c .before .is-pair2 .ensures in
-    let own = c .before .before .before .before .before .is-pair .ensures in
+    let own = c .before .before .is-pair .ensures in
     c .is-entitled .ensures ∙ λ i. entitledBy (row (at .x) .mustOwn) (own i) (own i && other i) (own i || other i)
 
-repeated-is : (c : tie.After-is-repeated) → let at = c .before .before .before .before .before .before .before .before .before .before .before .before .before .before .before .before .before .before .before .before .before .before .before .before .before .before .before .before .before .before .before .before .before .before .before .before .before .before .before .before .before .before .before .before .before .before .before .before .before .before .args in c .is-repeated .result ≡ row (at .x) .adds && present (at .t1) (row (at .x) .target) (at .a) (at .b)
+repeated-is : (c : tie.After-is-repeated) → let at = c .before .before .before .before .before .before .before .before .before .before .before .before .before .before .before .before .before .before .before .before .before .before .before .before .before .args in c .is-repeated .result ≡ row (at .x) .adds && present (lent (c .before .before .before .before .before .before .before .before .before .before .before .before .before .before .before .before .before .before .before .before .before .before .before .before .before)) (row (at .x) .target) (at .a) (at .b)
 repeated-is c =
-    let at = c .before .before .before .before .before .before .before .before .before .before .before .before .before .before .before .before .before .before .before .before .before .before .before .before .before .before .before .before .before .before .before .before .before .before .before .before .before .before .before .before .before .before .before .before .before .before .before .before .before .before .args in
+    let at = c .before .before .before .before .before .before .before .before .before .before .before .before .before .before .before .before .before .before .before .before .before .before .before .before .before .args in
     let exported = c .before .is-pair6 .ensures in
-    let imported = c .before .before .before .before .before .is-pair5 .ensures in
-    let inside = c .before .before .before .before .before .before .before .before .before .is-pair4 .ensures in
-    let owned = c .before .before .before .before .before .before .before .before .before .before .before .before .before .is-pair3 .ensures in
-    let object = c .before .before .before .before .before .before .before .before .before .before .before .before .before .before .before .before .before .before .before .before .before .before .before .before .before .before .before .before .before .is-member5 .ensures in
-    let place = c .before .before .before .before .before .before .before .before .before .before .before .before .before .before .before .before .before .before .before .before .before .before .before .before .before .before .before .before .before .before .before .before .before .before .before .before .before .before .before .before .before .is-member2 .ensures in
+    let imported = c .before .before .is-pair5 .ensures in
+    let inside = c .before .before .before .is-pair4 .ensures in
+    let owned = c .before .before .before .before .is-pair3 .ensures in
+    let object = c .before .before .before .before .before .before .before .before .before .before .before .is-member5 .ensures in
+    let place = c .before .before .before .before .before .before .before .before .before .before .before .before .before .before .is-member2 .ensures in
     c .is-repeated .ensures ∙ λ i. row (at .x) .adds && presentBy (row (at .x) .target) (place i) (object i) (owned i) (inside i) (imported i) (exported i)
 
-absent-is : (c : tie.After-is-absent) → let at = c .before .before .before .before .before .before .before .before .before .before .before .before .before .before .before .before .before .before .before .before .before .before .before .before .before .before .before .before .before .before .before .before .before .before .before .before .before .before .before .before .before .before .before .before .before .before .before .before .before .before .before .before .before .before .before .before .args in c .is-absent .result ≡ not (row (at .x) .adds) && absent (at .t1) (row (at .x) .target) (at .a) (at .b)
+absent-is : (c : tie.After-is-absent) → let at = c .before .before .before .before .before .before .before .before .before .before .before .before .before .before .before .before .before .before .before .before .before .before .before .before .before .before .before .before .args in c .is-absent .result ≡ not (row (at .x) .adds) && absent (lent (c .before .before .before .before .before .before .before .before .before .before .before .before .before .before .before .before .before .before .before .before .before .before .before .before .before .before .before .before)) (row (at .x) .target) (at .a) (at .b)
 absent-is c =
-    let at = c .before .before .before .before .before .before .before .before .before .before .before .before .before .before .before .before .before .before .before .before .before .before .before .before .before .before .before .before .before .before .before .before .before .before .before .before .before .before .before .before .before .before .before .before .before .before .before .before .before .before .before .before .before .before .before .before .args in
+    let at = c .before .before .before .before .before .before .before .before .before .before .before .before .before .before .before .before .before .before .before .before .before .before .before .before .before .before .before .before .args in
     let defined = c .before .is-pair7 .ensures in
-    let exported = c .before .before .before .before .before .before .before .is-pair6 .ensures in
-    let imported = c .before .before .before .before .before .before .before .before .before .before .before .is-pair5 .ensures in
-    let inside = c .before .before .before .before .before .before .before .before .before .before .before .before .before .before .before .is-pair4 .ensures in
-    let owned = c .before .before .before .before .before .before .before .before .before .before .before .before .before .before .before .before .before .before .before .is-pair3 .ensures in
+    let exported = c .before .before .before .before .is-pair6 .ensures in
+    let imported = c .before .before .before .before .before .is-pair5 .ensures in
+    let inside = c .before .before .before .before .before .before .is-pair4 .ensures in
+    let owned = c .before .before .before .before .before .before .before .is-pair3 .ensures in
     c .is-absent .ensures ∙ λ i. not (row (at .x) .adds) && absentBy (row (at .x) .target) (owned i) (defined i) (inside i) (imported i) (exported i)
 
 -- ---- the checks in order
-past-3 : (c : tie.Else1) → not (listed (c .before .before .before .before .before .args .t1) user (c .before .before .before .before .before .args .u)) ≡ false
+past-3 : (c : tie.Else1) → not (listed (lent (c .before .before .before .before .before .before .before .before .before .before)) user (c .before .before .before .before .before .before .before .before .before .before .args .u)) ≡ false
 past-3 c = sym (ap not (known-is (c .before))) ∙ c .if1 .left
 
-past-4 : (c : tie.Else2) → let at = c .before .before .before .before .before .before .before .before .before .before .before .before .before .before .before .before .before .before .before .before .before .before .before .args in missing (at .t1) (row (at .x) .lookup) (at .a) (at .b) ≡ false
+past-4 : (c : tie.Else2) → let at = c .before .before .before .before .before .before .before .before .before .before .before .before .before .before .before .before .args in missing (lent (c .before .before .before .before .before .before .before .before .before .before .before .before .before .before .before .before)) (row (at .x) .lookup) (at .a) (at .b) ≡ false
 past-4 c = sym (missing-is (c .before)) ∙ c .if2 .left
 
-past-5 : (c : tie.Else3) → let at = c .before .before .before .before .before .before .before .before .before .before .before .before .before .before .before .before .before .before .before .before .before .before .before .before .before .before .before .before .before .before .before .before .before .args in not (entitled (at .t1) (row (at .x) .mustOwn) (at .u) (at .a) (at .b)) ≡ false
+past-5 : (c : tie.Else3) → let at = c .before .before .before .before .before .before .before .before .before .before .before .before .before .before .before .before .before .before .before .before .args in not (entitled (lent (c .before .before .before .before .before .before .before .before .before .before .before .before .before .before .before .before .before .before .before .before)) (row (at .x) .mustOwn) (at .u) (at .a) (at .b)) ≡ false
 past-5 c = sym (ap not (entitled-is (c .before))) ∙ c .if3 .left
 
-past-6 : (c : tie.Else4) → let at = c .before .before .before .before .before .before .before .before .before .before .before .before .before .before .before .before .before .before .before .before .before .before .before .before .before .before .before .before .before .before .before .before .before .before .before .before .before .before .before .before .before .before .before .before .before .before .before .before .before .before .before .args in row (at .x) .adds && present (at .t1) (row (at .x) .target) (at .a) (at .b) ≡ false
+past-6 : (c : tie.Else4) → let at = c .before .before .before .before .before .before .before .before .before .before .before .before .before .before .before .before .before .before .before .before .before .before .before .before .before .before .args in row (at .x) .adds && present (lent (c .before .before .before .before .before .before .before .before .before .before .before .before .before .before .before .before .before .before .before .before .before .before .before .before .before .before)) (row (at .x) .target) (at .a) (at .b) ≡ false
 past-6 c = sym (repeated-is (c .before)) ∙ c .if4 .left
 
-past-7 : (c : tie.Else5) → let at = c .before .before .before .before .before .before .before .before .before .before .before .before .before .before .before .before .before .before .before .before .before .before .before .before .before .before .before .before .before .before .before .before .before .before .before .before .before .before .before .before .before .before .before .before .before .before .before .before .before .before .before .before .before .before .before .before .before .args in not (row (at .x) .adds) && absent (at .t1) (row (at .x) .target) (at .a) (at .b) ≡ false
+past-7 : (c : tie.Else5) → let at = c .before .before .before .before .before .before .before .before .before .before .before .before .before .before .before .before .before .before .before .before .before .before .before .before .before .before .before .before .before .args in not (row (at .x) .adds) && absent (lent (c .before .before .before .before .before .before .before .before .before .before .before .before .before .before .before .before .before .before .before .before .before .before .before .before .before .before .before .before .before)) (row (at .x) .target) (at .a) (at .b) ≡ false
 past-7 c = sym (absent-is (c .before)) ∙ c .if5 .left
 
 returns : tie.Need-returns
 returns c = sym (met _ _ (sym (ap not (known-is (c .before))) ∙ c .if1 .taken))
 
 returns-2 : tie.Need-returns-2
-returns-2 c = sym (passed _ _ (past-3 (c .before .before .before .before .before .before .before .before .before .before .before .before .before .before .before .before .before .before)) ∙ met _ _ (sym (missing-is (c .before)) ∙ c .if2 .taken))
+returns-2 c = sym (passed _ _ (past-3 (c .before .before .before .before .before .before)) ∙ met _ _ (sym (missing-is (c .before)) ∙ c .if2 .taken))
 
 returns-3 : tie.Need-returns-3
-returns-3 c = sym (passed _ _ (past-3 (c .before .before .before .before .before .before .before .before .before .before .before .before .before .before .before .before .before .before .before .before .before .before .before .before .before .before .before .before)) ∙ passed _ _ (past-4 (c .before .before .before .before .before .before .before .before .before .before)) ∙ met _ _ (sym (ap not (entitled-is (c .before))) ∙ c .if3 .taken))
+returns-3 c = sym (passed _ _ (past-3 (c .before .before .before .before .before .before .before .before .before .before)) ∙ passed _ _ (past-4 (c .before .before .before .before)) ∙ met _ _ (sym (ap not (entitled-is (c .before))) ∙ c .if3 .taken))
 
 returns-4 : tie.Need-returns-4
 returns-4 c =
-    sym (passed _ _ (past-3 (c .before .before .before .before .before .before .before .before .before .before .before .before .before .before .before .before .before .before .before .before .before .before .before .before .before .before .before .before .before .before .before .before .before .before .before .before .before .before .before .before .before .before .before .before .before .before)) ∙ passed _ _ (past-4 (c .before .before .before .before .before .before .before .before .before .before .before .before .before .before .before .before .before .before .before .before .before .before .before .before .before .before .before .before)) ∙ passed _ _ (past-5 (c .before .before .before .before .before .before .before .before .before .before .before .before .before .before .before .before .before .before)) ∙ met _ _ (sym (repeated-is (c .before)) ∙ c .if4 .taken))
+    sym (passed _ _ (past-3 (c .before .before .before .before .before .before .before .before .before .before .before .before .before .before .before .before)) ∙ passed _ _ (past-4 (c .before .before .before .before .before .before .before .before .before .before)) ∙ passed _ _ (past-5 (c .before .before .before .before .before .before)) ∙ met _ _ (sym (repeated-is (c .before)) ∙ c .if4 .taken))
 
 returns-5 : tie.Need-returns-5
 returns-5 c =
     sym
-    (passed _ _ (past-3 (c .before .before .before .before .before .before .before .before .before .before .before .before .before .before .before .before .before .before .before .before .before .before .before .before .before .before .before .before .before .before .before .before .before .before .before .before .before .before .before .before .before .before .before .before .before .before .before .before .before .before .before .before)) ∙ passed _ _ (past-4 (c .before .before .before .before .before .before .before .before .before .before .before .before .before .before .before .before .before .before .before .before .before .before .before .before .before .before .before .before .before .before .before .before .before .before)) ∙ passed _ _ (past-5 (c .before .before .before .before .before .before .before .before .before .before .before .before .before .before .before .before .before .before .before .before .before .before .before .before)) ∙ passed _ _ (past-6 (c .before .before .before .before .before .before))
+    (passed _ _ (past-3 (c .before .before .before .before .before .before .before .before .before .before .before .before .before .before .before .before .before .before .before)) ∙ passed _ _ (past-4 (c .before .before .before .before .before .before .before .before .before .before .before .before .before)) ∙ passed _ _ (past-5 (c .before .before .before .before .before .before .before .before .before)) ∙ passed _ _ (past-6 (c .before .before .before))
     ∙ met _ _ (sym (absent-is (c .before)) ∙ c .if5 .taken))
 
 returns-6 : tie.Need-returns-6
 returns-6 c =
     sym
-    (passed _ _ (past-3 (c .before .before .before .before .before .before .before .before .before .before .before .before .before .before .before .before .before .before .before .before .before .before .before .before .before .before .before .before .before .before .before .before .before .before .before .before .before .before .before .before .before .before .before .before .before .before .before .before .before .before .before .before)) ∙ passed _ _ (past-4 (c .before .before .before .before .before .before .before .before .before .before .before .before .before .before .before .before .before .before .before .before .before .before .before .before .before .before .before .before .before .before .before .before .before .before)) ∙ passed _ _ (past-5 (c .before .before .before .before .before .before .before .before .before .before .before .before .before .before .before .before .before .before .before .before .before .before .before .before)) ∙ passed _ _ (past-6 (c .before .before .before .before .before .before)) ∙ passed _ _ (past-7 c) ∙ none-met)
+    (passed _ _ (past-3 (c .before .before .before .before .before .before .before .before .before .before .before .before .before .before .before .before .before .before .before)) ∙ passed _ _ (past-4 (c .before .before .before .before .before .before .before .before .before .before .before .before .before)) ∙ passed _ _ (past-5 (c .before .before .before .before .before .before .before .before .before)) ∙ passed _ _ (past-6 (c .before .before .before)) ∙ passed _ _ (past-7 c) ∙ none-met)
 
 pub early-refusal-spec : {M : Type 1} → statement M
 early-refusal-spec =
