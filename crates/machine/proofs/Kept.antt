@@ -13,7 +13,7 @@ use Rattle.state.specs.Site.{Kind, user, area, object, limit, listed, withListe
 use Rattle.state.specs.Walk.{someMember, somePair, hasFirst, hasSecond}
 use Rattle.state.specs.declared.State.{State}
 use Rattle.state.proofs.Bools.{is-true, holds, fails, and-both, and-left, and-right, not-so, so-not}
-use Rattle.state.proofs.Laws.{listed-same, listed-else, list-shaped, unlist-adds-none, related-same, related-else, relate-shaped, add-keeps-pairs, remove-adds-none, some-member, some-pair, has-first, has-second}
+use Rattle.state.proofs.Laws.{listed-same, listed-other, listed-else, list-shaped, unlist-adds-none, related-same, related-other, related-else, relate-shaped, add-keeps-pairs, remove-adds-none, some-member, some-pair, has-first, has-second}
 use Rattle.access.specs.Lending.{lending}
 use Rattle.access.specs.Answer.{access}
 use Rattle.access.proofs.Laws.{access-is-defined}
@@ -179,11 +179,8 @@ module _ (s : State) (h : Sound s) where
   other-area : (u a : ℕ) → onlyArea s a ≡ false → (c : ℕ) × T (listed (area-less u a) area c)
   other-area u a e =
       let r = some-member (s .areas) (λ c. not (eqb c a)) .0 (so (someMember (s .areas) (λ c. not (eqb c a))) e) in
-      (r .0, stays (r .0) (not-so (eqb (r .0) a) (r .2)) (r .1) (listed-else (withoutOwner s u a) area area a (r .0) false))
-    where
-      stays : (c : ℕ) → (T (eqb c a) → ⊥) → T (listed s area c) → ((area ≡ area) × (c ≡ a)) ⊎ (listed (area-less u a) area c ≡ listed s area c) → T (listed (area-less u a) area c)
-      stays c ne t (inl q) = absurd (ne (holds (eq-eqb c a (q .1))))
-      stays c ne t (inr q) = subst T (sym q) t
+      let ne : r .0 ≡ a → ⊥ = λ q. not-so (eqb (r .0) a) (r .2) (holds (eq-eqb (r .0) a q)) in
+      (r .0, subst T (sym (listed-other (withoutOwner s u a) area a (r .0) false ne)) (r .1))
 
   area-remove : (u a : ℕ) → onlyArea s a ≡ false → inUse s theArea u a ≡ false → Sound (area-less u a)
   area-remove u a more e =
@@ -236,10 +233,6 @@ module _ (s : State) (h : Sound s) where
       only c p (inl e) = e .2
       only c p (inr e) = absurd (fails new (h .consistent definition b c (subst T e p) .first))
 
-      other : (o c : ℕ) → (o ≡ b → ⊥) → ((definition ≡ definition) × (o ≡ b) × (c ≡ a)) ⊎ (defines (object-more a b) o c ≡ defines s o c) → defines (object-more a b) o c ≡ defines s o c
-      other o c ne (inl e) = absurd (ne (e .1))
-      other o c ne (inr e) = e
-
       before : (o : ℕ) → (o ≡ b → ⊥) → (o ≡ b) ⊎ T (listed s object o) → T (listed s object o)
       before o ne (inl e) = absurd (ne e)
       before o ne (inr q) = q
@@ -253,7 +246,7 @@ module _ (s : State) (h : Sound s) where
             only = λ c p. only c p (related-else t definition definition b a b c true);
           })
       once o q (no ne) =
-          once-same s (object-more a b) o (λ c. other o c ne (related-else t definition definition b a o c true))
+          once-same s (object-more a b) o (λ c. related-other t definition b a o c true (λ e q. ne e))
           (h .acceptable .objects o (before o ne (now-listed object b o q)))
 
   -- code 8: an object is no longer defined, and no entry of it is left
@@ -296,14 +289,10 @@ module _ (s : State) (h : Sound s) where
       named import n k q = unreached n (v .imported b n q)
       named export n k q = unreached n (v .exported b n q)
 
-      other : (o c : ℕ) → (o ≡ b → ⊥) → ((definition ≡ definition) × (o ≡ b) × (c ≡ a)) ⊎ (defines t o c ≡ defines s o c) → defines t o c ≡ defines s o c
-      other o c ne (inl e) = absurd (ne (e .1))
-      other o c ne (inr e) = e
-
       once : (o : ℕ) → T (listed (object-less a b) object o) → Dec (o ≡ b) → DefinedOnce (object-less a b) o
       once o q (yes e) = absurd (unlisted s object b (h .shaped) (rw e at q))
       once o q (no ne) =
-          once-same s (object-less a b) o (λ c. other o c ne (related-else s definition definition b a o c false))
+          once-same s (object-less a b) o (λ c. related-other s definition b a o c false (λ e q. ne e))
           (h .acceptable .objects o (unlist-adds-none s object object b o q))
 
   -- codes 5, 9, 11, and 6, 10, 12: a pair that is neither an owner nor a definition pair

@@ -2,23 +2,21 @@
 -- Assumes nothing.
 use Prim.Native.Nat.{ℕ}
 use mathlib.Core.Path.{_≡_, refl, sym, ap, subst, _∙_}
-use mathlib.Core.Logic.{_⊎_, inl, inr, _↔_}
+use mathlib.Core.Logic.{_↔_}
 use mathlib.Core.Bool.{Bool, true, false, _&&_, _||_, not, cond}
 use mathlib.Core.List.{List, [], _∷_}
 use lib.Dec.{T, eqb}
+use lib.ListN.{drop}
 use borrow.Author.Tests.{eqb-true, eq-eqb}
 use Rattle.state.specs.Site.{user, area, owner, structure, listed, withListed, withPair, owns, Shaped}
 use Rattle.state.specs.Walk.{someMember, somePair, hasFirst, hasSecond}
 use Rattle.state.specs.declared.State.{State}
 use Rattle.state.proofs.Bools.{is-true, holds, and-both, and-left, and-right, not-so, so-not, same-test}
-use Rattle.state.proofs.Laws.{listed-else, unlist-adds-none, list-shaped, relate-shaped, remove-adds-none, some-member, some-pair, has-second}
-use Rattle.access.specs.Lending.{lending}
-use Rattle.access.specs.Answer.{access}
-use Rattle.soundness.specs.Tests.{someListed, isValid}
+use Rattle.state.proofs.Laws.{listed-other, unlist-adds-none, list-shaped, relate-shaped, remove-adds-none, some-member, some-pair, has-second}
+use Rattle.soundness.specs.Tests.{someListed}
 use Rattle.soundness.proofs.Laws.{some-decided}
-use Rattle.instructions.specs.Instructions.{row}
 use Rattle.instructions.specs.Successor.{withoutOwner, successor}
-use Rattle.machine.specs.Refusals.{soleOwner, onlyArea, otherOwner, isLast, inUse, isEntry, bearsAccess, Check, _when_, checks, firstMet}
+use Rattle.machine.specs.Refusals.{soleOwner, onlyArea, otherOwner, Check, _when_, checks, firstMet}
 use Rattle.machine.specs.Parts.{early, late}
 use Rattle.instructions.specs.declared.Instruction.{Instruction}
 use Rattle.instructions.specs.declared.Instruction.the-variants.{ListArea, UnlistArea, AddOwner, RemoveOwner, AddStructure, RemoveStructure, Define, RemoveDefinition, AddImport, RemoveImport, AddExport, RemoveExport}
@@ -77,15 +75,11 @@ module _ (s : State) (shaped : Shaped s) where
       sh : Shaped (withoutOwner s u a)
       sh = list-shaped (withPair s owner u a false) user u _ (relate-shaped s owner u a false shaped)
 
-      stays : (c : ℕ) → (c ≡ a → ⊥) → T (listed s area c) → ((area ≡ area) × (c ≡ a)) ⊎ (listed t area c ≡ listed s area c) → T (listed t area c)
-      stays c ne h (inl e) = absurd (ne (e .1))
-      stays c ne h (inr e) = subst T (sym e) h
-
       there : T (someMember (s .areas) (λ c. not (eqb c a))) → T (someListed (t .areas))
       there h =
           let r = some-member (s .areas) (λ c. not (eqb c a)) .0 h in
           some-decided (t .areas) .1
-          (r .0, stays (r .0) (λ e. not-so (eqb (r .0) a) (r .2) (holds (eq-eqb (r .0) a e))) (r .1) (listed-else (withoutOwner s u a) area area a (r .0) false))
+          (r .0, subst T (sym (listed-other (withoutOwner s u a) area a (r .0) false (λ e. not-so (eqb (r .0) a) (r .2) (holds (eq-eqb (r .0) a e))))) (r .1))
 
       back : T (someListed (t .areas)) → T (someMember (s .areas) (λ c. not (eqb c a)))
       back h =
@@ -98,12 +92,7 @@ module _ (s : State) (shaped : Shaped s) where
 
   -- the checks 8 to 11 as the paper has them
   abbrev last-checks : Instruction → (u a b : ℕ) → List Check
-  last-checks x u a b =
-      (8 when not (row x .adds) && isLast s (row x .target) a b)
-      ∷ (9 when not (row x .adds) && inUse s (row x .target) u a)
-      ∷ (10 when row x .adds && isEntry (row x .target) && not (access (lending (successor s x u a b) b) a))
-      ∷ (11 when not (row x .adds) && bearsAccess (row x .target) && not (isValid (successor s x u a b)))
-      ∷ []
+  last-checks x u a b = drop 5 (checks s x u a b)
 
   same-checks : (x : Instruction) (u a b : ℕ) → last-checks x u a b ≡ late (successor s x u a b) x a b
   same-checks ListArea u a b = refl

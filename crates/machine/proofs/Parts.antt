@@ -12,7 +12,7 @@ use Rattle.state.specs.Site.{Kind, user, area, object, limit, kindNumber, liste
 use Rattle.state.specs.Walk.{hasFirst}
 use Rattle.state.specs.declared.State.{State}
 use Rattle.state.proofs.Bools.{and-both, and-right, holds, fails}
-use Rattle.state.proofs.Laws.{listed-else, list-keeps-listed, unlist-adds-none, list-keeps-pairs, listed-same, listed-outside, related-same, related-other-relation, relate-shaped, related-else, related-outside, relate-keeps-lists, remove-adds-none, has-first}
+use Rattle.state.proofs.Laws.{listed-other, listed-else, list-keeps-listed, unlist-adds-none, list-keeps-pairs, listed-same, listed-outside, related-same, related-other-relation, relate-shaped, related-else, related-outside, relate-keeps-lists, remove-adds-none, has-first}
 use Rattle.access.specs.Lending.{Lending, lending}
 use Rattle.access.specs.Answer.{access}
 use Rattle.access.proofs.Laws.{more-keeps-access, added-is-included}
@@ -180,7 +180,7 @@ acceptable-more s t u a acc new kept new-user new-area objects =
 pub unlisted : (s : State) (k : Kind) (i : ℕ) → Shaped s → T (listed (withListed s k i false) k i) → ⊥
 unlisted s k i shaped t = fails (listed-same s k i false shaped (listed-inside s k i shaped (unlist-adds-none s k k i i t))) t
 
--- a user and an area less each other
+-- the users and the areas after user u lost area a
 module _ (s : State) (u a : ℕ) (shaped : Shaped s) (c : Consistent s) (acc : Acceptable s) where
   abbrev less : State
   less = withoutOwner s u a
@@ -192,14 +192,14 @@ module _ (s : State) (u a : ℕ) (shaped : Shaped s) (c : Consistent s) (acc : A
       self true e t = kept-owns s u a c (holds e)
       self false e t = absurd (unlisted (after s u a c) user u (relate-shaped s owner u a false shaped) t)
 
-      other : (v ≡ u → ⊥) → ((user ≡ user) × (v ≡ u)) ⊎ (listed less user v ≡ listed (after s u a c) user v) → (n : ℕ) × T (owns less v n)
-      other ne (inl e) = absurd (ne (e .1))
-      other ne (inr e) =
-          let d = acc .users v (subst T e h) in (d .0, still s owner owner u a v (d .0) false (λ r q n. ne q) (d .1))
+      other : (v ≡ u → ⊥) → (n : ℕ) × T (owns less v n)
+      other ne =
+          let d = acc .users v (subst T (listed-other (after s u a c) user u v (keeps s u a c) ne) h) in
+          (d .0, still s owner owner u a v (d .0) false (λ r q n. ne q) (d .1))
 
       go : Dec (v ≡ u) → (n : ℕ) × T (owns less v n)
       go (yes e) = rw e (self (keeps s u a c) refl (rw e at h))
-      go (no ne) = other ne (listed-else (after s u a c) user user u v (keeps s u a c))
+      go (no ne) = other ne
 
   pub areas-without : (d : ℕ) → (d ≡ a → ⊥) → T (listed s area d) → (v : ℕ) × T (owns less v d)
   areas-without d ne h = let o = acc .areas d h in (o .0, still s owner owner u a (o .0) d false (λ r q n. ne n) (o .1))

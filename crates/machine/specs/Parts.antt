@@ -3,26 +3,21 @@
 use Prim.Native.Nat.{ℕ}
 use mathlib.Core.Bool.{Bool, false, _&&_, _||_, not}
 use mathlib.Core.List.{List, [], _∷_}
+use lib.ListN.{take}
 use Rattle.state.specs.Cells.{Pairs}
-use Rattle.state.specs.Site.{listed, user, owner, definition, structure, import, export}
+use Rattle.state.specs.Site.{owner, definition, structure, import, export}
 use Rattle.state.specs.Walk.{hasFirst, hasSecond}
 use Rattle.state.specs.declared.State.{State}
 use Rattle.access.specs.Lending.{lending}
 use Rattle.access.specs.Answer.{access}
 use Rattle.soundness.specs.Tests.{someListed, isValid}
 use Rattle.instructions.specs.Instructions.{Target, theArea, pairOf, row}
-use Rattle.machine.specs.Refusals.{missing, entitled, present, absent, isEntry, bearsAccess, Check, _when_}
+use Rattle.machine.specs.Refusals.{isEntry, bearsAccess, Check, _when_, checks}
 use Rattle.instructions.specs.declared.Instruction.{Instruction}
 
--- checks 3 to 7
+-- checks 3 to 7, the first five of the table
 abbrev pub early : State → Instruction → (u a b : ℕ) → List Check
-early s x u a b =
-    (3 when not (listed s user u))
-    ∷ (4 when missing s (row x .lookup) a b)
-    ∷ (5 when not (entitled s (row x .mustOwn) u a b))
-    ∷ (6 when row x .adds && present s (row x .target) a b)
-    ∷ (7 when not (row x .adds) && absent s (row x .target) a b)
-    ∷ []
+early s x u a b = take 5 (checks s x u a b)
 
 -- some relation has a pair with area a, or the structure a pair that begins with it
 abbrev pub namesArea : (ow de st im ex : Pairs) → ℕ → Bool

@@ -1,4 +1,5 @@
--- The refusals of an instruction (document 01, 'Refusals of an instruction'): each condition with the paper's words, and the table in the paper's order.
+-- The refusals of an instruction (document 01, 'Refusals of an instruction'): each condition with the paper's words, and the table in the paper's order. 1
+-- and 2 are the decoder's (instructions, Decode).
 use Prim.Native.Nat.{ℕ}
 use mathlib.Core.Bool.{Bool, true, false, _&&_, _||_, not, cond}
 use mathlib.Core.List.{List, [], _∷_}
