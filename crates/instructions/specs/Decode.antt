@@ -13,6 +13,7 @@ abbrev pub fits : Operand → ℕ → Bool
 fits zeroOnly b = eqb b 0
 fits (numberOf k) b = ltb b (limit k)
 
+-- the activator is a user, a an area, and b what the table says
 abbrev pub inRange : (fits : Bool) → (u a : ℕ) → Bool
 inRange f u a = ltb u (limit user) && ltb a (limit area) && f
 

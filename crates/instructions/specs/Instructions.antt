@@ -36,12 +36,12 @@ pub data Lookup : Type 0 where
   lookA : Lookup
   lookBoth : Kind → Lookup
 
--- "activator must own": "nothing", "a", "both", "either"
+-- "activator must own": "nothing", "a", "both", and for the cutting of a structure pair "either" (machine, mayCut)
 pub data MustOwn : Type 0 where
   ownsNothing : MustOwn
   ownsA : MustOwn
   ownsBoth : MustOwn
-  ownsEither : MustOwn
+  ownsToCut : MustOwn
 
 -- A row of the table. `adds` tells "an add" from "a remove".
 pub record Row : Type 0 where
@@ -64,7 +64,7 @@ row UnlistArea = remove theArea zeroOnly lookA ownsA
 row AddOwner = add (pairOf owner) (numberOf user) lookA ownsA
 row RemoveOwner = remove (pairOf owner) (numberOf user) (lookBoth user) ownsA
 row AddStructure = add (pairOf structure) (numberOf area) (lookBoth area) ownsBoth
-row RemoveStructure = remove (pairOf structure) (numberOf area) (lookBoth area) ownsEither
+row RemoveStructure = remove (pairOf structure) (numberOf area) (lookBoth area) ownsToCut
 row Define = add (pairOf definition) (numberOf object) lookA ownsA
 row RemoveDefinition = remove (pairOf definition) (numberOf object) (lookBoth object) ownsA
 row AddImport = add (pairOf import) (numberOf object) (lookBoth object) ownsA

@@ -10,7 +10,7 @@ use Rattle.state.specs.declared.State.{State}
 use Rattle.access.specs.Lending.{lending}
 use Rattle.access.specs.Answer.{access}
 use Rattle.soundness.specs.Tests.{isValid, isSound}
-use Rattle.instructions.specs.Instructions.{Bytes, Target, theArea, pairOf, Lookup, noLookup, lookA, lookBoth, MustOwn, ownsNothing, ownsA, ownsBoth, ownsEither, row, Picked, unknown, instruction, instructionOf, firstOf, secondOf}
+use Rattle.instructions.specs.Instructions.{Bytes, Target, theArea, pairOf, Lookup, noLookup, lookA, lookBoth, MustOwn, ownsNothing, ownsA, ownsBoth, ownsToCut, row, Picked, unknown, instruction, instructionOf, firstOf, secondOf}
 use Rattle.instructions.specs.Decode.{outOfRange}
 use Rattle.instructions.specs.Successor.{successor}
 use Rattle.instructions.specs.declared.Instruction.{Instruction}
@@ -38,7 +38,7 @@ abbrev pub entitledBy : MustOwn → (ofA both cut : Bool) → Bool
 entitledBy ownsNothing ofA both cut = true
 entitledBy ownsA ofA both cut = ofA
 entitledBy ownsBoth ofA both cut = both
-entitledBy ownsEither ofA both cut = cut
+entitledBy ownsToCut ofA both cut = cut
 
 abbrev pub entitled : State → MustOwn → (u a b : ℕ) → Bool
 entitled s m u a b = entitledBy m (owns s u a) (owns s u a && owns s u b) (mayCut s u a b)

@@ -1,5 +1,6 @@
 -- The step, the list of steps, and the access question.
 use Prim.Native.Nat.{ℕ}
+use mathlib.Core.Path.{_≡_}
 use mathlib.Core.Bool.{not, _&&_, cond}
 use mathlib.Core.List.{List, [], _∷_}
 use lib.Dec.{eqb, ltb}
@@ -7,6 +8,7 @@ use Rattle.state.specs.Site.{area, object, limit}
 use Rattle.state.specs.declared.State.{State}
 use Rattle.access.specs.Lending.{lending}
 use Rattle.access.specs.Answer.{answer}
+use Rattle.access.specs.Claims.{Meaning}
 use Rattle.soundness.specs.Tests.{isSound}
 use Rattle.instructions.specs.Instructions.{Bytes, numberOf, lookBoth, instructionOf}
 use Rattle.instructions.specs.Decode.{fits}
@@ -51,7 +53,17 @@ replied s a b n = cond (eqb n 0) (Answered (answer (lending s b) a)) (Refused n)
 unfoldable pub replyOf : State → (a b : ℕ) → Reply
 replyOf s a b = replied s a b (firstMet (questionRefusals s a b))
 
--- the paper's number for each case, 0 for an answer; the answer's own value is `number` of access
+-- the paper's number for each case, 0 for an answer
 abbrev pub replyNumber : Reply → ℕ
 replyNumber (Refused n) = n
 replyNumber (Answered x) = 0
+
+-- an answer is the least number of steps, or there is no chain (access, Meaning; its value is `number`)
+abbrev pub ReplyMeans : State → (a b : ℕ) → Reply → Type 0
+ReplyMeans s a b (Refused n) = Unit
+ReplyMeans s a b (Answered x) = Meaning (lending s b) a x
+
+-- what `ask` promises of its reply beside the equation
+pub record Replied (s : State) (a b : ℕ) (r : Reply) : Type 0 where
+  pub first-refusal : replyNumber r ≡ firstMet (questionRefusals s a b)
+  pub meaning : ReplyMeans s a b r

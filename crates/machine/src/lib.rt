@@ -8,7 +8,7 @@ ghost use Rattle.instructions.specs.Instructions.{fourBytes, row};
 ghost use Rattle.instructions.specs.declared.Instruction.the-variants.{UnlistArea};
 ghost use Rattle.machine.specs.Refusals.{missingBy, entitledBy, presentBy, absentBy, firstMet};
 ghost use Rattle.machine.specs.Parts.{early, late, namesArea};
-ghost use Rattle.machine.specs.Step.{outcomeOf, stepOf, questionRefusals, replyOf, replyNumber};
+ghost use Rattle.machine.specs.Step.{outcomeOf, stepOf, replyOf, Replied};
 use access::Answer;
 use instructions::Decoded;
 use instructions::Instruction;
@@ -152,6 +152,7 @@ fn early_refusal<'a>(
     }
     let own = state::is_pair(owners, u, a);
     let other = state::is_pair(owners, u, b);
+    // `own | other` is the rule for cutting a structure pair: either owner may.
     if !is_entitled(x, own, own & other, own | other) {
         return 5;
     }
@@ -310,7 +311,7 @@ pub fn step(s: State, code: u8, activator: u8, a: u8, b: u8) -> Outcome
 // In how many steps has area a access to object b? Any record, and any numbers.
 pub fn ask(s: State, a: u8, b: u8) -> Reply
     ensures equation { λ r. ⌜ r ≡ replyOf s a b ⌝ }
-    ensures number { λ r. ⌜ replyNumber r ≡ firstMet (questionRefusals s a b) ⌝ }
+    ensures told { λ r. ⌜ Replied s a b r ⌝ }
 {
     if !soundness::is_sound(s) {
         return Reply::Refused(12);

@@ -26,7 +26,7 @@ pub extern "C" fn probe_steps<'a>(
     }
 }
 
-// The refusal of one instruction in the record that the arrays hold, 0 if it is accepted; the arrays hold the state after it. The step is taken `turns` times,
+// The refusal of one instruction in the record that the arrays hold, 0 if it is accepted; the arrays hold the state after it. The step is taken `turns` times, at least once,
 // each time from the record given: what a timing of many turns measures is the step, since the record is copied in and out once.
 #[no_mangle]
 pub extern "C" fn probe_step(

@@ -28,7 +28,7 @@ const PUT_IMPORT: u64 = 9_000_000_000_000; // object x is imported by area y
 
 const EMPTY: u64 = 10_000_000_000_000; // what the founding state has is taken out
 
-const COMMANDS: [u64; 300] = [
+const COMMANDS: [u64; 311] = [
     // F is the founding state: user 0 owns area 0. The examples of document 01's table; that of refusal 11 is line 9 of the session.
     CASE + 1,
     013_000_000_000,
@@ -292,6 +292,18 @@ const COMMANDS: [u64; 300] = [
     006_000_000_020,
     ASK + 031_009,
     STATE,
+    // Areas 0 and 2 lie in area 1. Area 0 defines and exports, area 2 imports. The pair (0, 1) is cut: neither of its areas loses anything, area 2 does.
+    CASE + 36,
+    001_000_001_000,
+    001_000_002_000,
+    005_000_000_001,
+    005_000_002_001,
+    007_000_000_009,
+    011_000_000_009,
+    009_000_002_009,
+    ASK + 2_009,
+    006_000_000_001,
+    STATE,
     // Records that no instruction leads to: what is written into them is printed. Refusal 12 comes before all others, of a question too.
     CASE + 27,
     LIST_AREA + 3,
@@ -402,6 +414,7 @@ fn title(number: u8) {
         27..=34 => print_unsound(number),
         13 => print(b"the session"),
         26 => print(b"a cut far from the import, and other ways"),
+        36 => print(b"a cut whose own areas lose nothing"),
         35 => print(b"questions: out of range, not listed, answered"),
         _ => {}
     }
@@ -598,7 +611,7 @@ fn after(s: State, command: u64) -> State {
 fn run_commands() {
     let commands = COMMANDS;
     let mut s = State::founding();
-    for i in 0..300usize {
+    for i in 0..311usize {
         let next = after(s, commands[i]);
         s = next;
     }

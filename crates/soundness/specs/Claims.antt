@@ -10,6 +10,7 @@ use Rattle.soundness.specs.Sound.{Valid, Sound}
 use Rattle.soundness.specs.Rows.{objectsReached, soundOf}
 use Rattle.soundness.specs.Tests.{isValid, isSound}
 
+-- the test decides validity
 abbrev pub ValidDecided : Type 0
 ValidDecided = (s : State) → T (isValid s) ↔ Valid s
 
@@ -17,6 +18,7 @@ ValidDecided = (s : State) → T (isValid s) ↔ Valid s
 abbrev pub ValidByObjects : Type 0
 ValidByObjects = (s : State) → Shaped s → isValid s ≡ objectsReached (s .definitions) (s .structure) (s .imports) (s .exports)
 
+-- the test decides soundness, of a record that has its shape
 abbrev pub SoundDecided : Type 0
 SoundDecided = (s : State) → Shaped s → T (isSound s) ↔ Sound s
 

@@ -1,4 +1,5 @@
--- What the functions ask and promise of the rows that they are handed: their number, a test of each number, and a count.
+-- What the functions ask and promise of the rows and arrays that they are handed: their number, a test of each number, a count; and for the public ones on lent
+-- arrays `objectsReached` and `soundOf`.
 use Prim.Native.Nat.{ℕ, zero, suc, _+_, _*_}
 use mathlib.Core.Path.{_≡_}
 use mathlib.Core.Bool.{Bool, true, false, _&&_, _||_, not, cond}

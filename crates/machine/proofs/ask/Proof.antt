@@ -1,23 +1,33 @@
 -- `machine::ask` meets its contract: the first refusal that is met decides, and with none the access layer's answer is handed on.
 -- Assumes nothing.
 use Prim.Native.Nat.{ℕ}
-use mathlib.Core.Path.{_≡_, sym, ap, ap₂, _∙_}
+use mathlib.Core.Path.{_≡_, refl, sym, ap, ap₂, _∙_}
 use mathlib.Core.Bool.{Bool, true, false, _&&_, not}
 use Rattle.state.specs.Site.{object}
 use Rattle.state.specs.declared.State.{State}
+use Rattle.access.specs.Lending.{lending}
+use Rattle.access.specs.Answer.{answer}
+use Rattle.access.specs.Claims.{Meaning}
+use Rattle.access.specs.declared.Answer.{Answer}
 use Rattle.soundness.specs.Tests.{isSound}
 use Rattle.instructions.specs.Instructions.{lookBoth}
 use Rattle.machine.specs.Refusals.{missing, firstMet}
-use Rattle.machine.specs.Step.{questionRefusals, replied, replyOf}
-use Rattle.machine.specs.declared.Reply.the-variants.{Answered}
+use Rattle.machine.specs.Step.{questionRefusals, replied, replyOf, Replied}
+use Rattle.machine.specs.declared.Reply.the-variants.{Refused, Answered}
 use Rattle.machine.proofs.First.{met, passed, none-met}
 use Rattle.machine.proofs.ask.Statement.{statement}
 use Rattle.machine.proofs.ask.Tie as tie
 
--- both promises, from the number of the first refusal
-promised : (s : State) (a b n : ℕ) → firstMet (questionRefusals s a b) ≡ n → (replied s a b n ≡ replyOf s a b) × (n ≡ firstMet (questionRefusals s a b))
+-- both promises of a refusal, from its number
+refusing : (s : State) (a b n : ℕ) → replied s a b n ≡ Refused n → firstMet (questionRefusals s a b) ≡ n → (Refused n ≡ replyOf s a b) × Replied s a b (Refused n)
 unfolding replyOf
-promised s a b n e = (ap (replied s a b) (sym e), sym e)
+refusing s a b n r e = (sym r ∙ ap (replied s a b) (sym e), record { first-refusal = sym e; meaning = tt })
+
+-- and of an answer
+answering : (s : State) (a b : ℕ) (x : Answer) → x ≡ answer (lending s b) a → Meaning (lending s b) a x → firstMet (questionRefusals s a b) ≡ 0
+    → (Answered x ≡ replyOf s a b) × Replied s a b (Answered x)
+unfolding replyOf
+answering s a b x q m e = (ap Answered q ∙ ap (replied s a b) (sym e), record { first-refusal = sym e; meaning = m })
 
 is-sound-requires : tie.Need-is-sound-requires
 is-sound-requires c κs = tt
@@ -39,22 +49,21 @@ unlisted : (c : tie.After-is-member2) (v : Bool) → not (c .before .before .bef
 unlisted c v e = sym (ap₂ (λ (p q : Bool). not (p && q)) (c .before .before .before .before .is-member .ensures) (c .is-member2 .ensures)) ∙ e
 
 returns : tie.Need-returns
-returns c = promised _ _ _ 12 (met _ _ (unsound (c .before) true (c .if1 .taken)))
+returns c = refusing _ _ _ 12 refl (met _ _ (unsound (c .before) true (c .if1 .taken)))
 
 returns-2 : tie.Need-returns-2
-returns-2 c = promised _ _ _ 2 (passed _ _ (unsound (c .before .before) false (c .before .if1 .left)) ∙ met _ _ (c .if2 .taken))
+returns-2 c = refusing _ _ _ 2 refl (passed _ _ (unsound (c .before .before) false (c .before .if1 .left)) ∙ met _ _ (c .if2 .taken))
 
 returns-3 : tie.Need-returns-3
 returns-3 c =
-    promised _ _ _ 4 (passed _ _ (unsound (c .before .before .before .before .before .before .before .before .before .before .before) false (c .before .before .before .before .before .before .before .before .before .before .if1 .left)) ∙ passed _ _ (c .before .before .before .before .before .before .before .before .before .if2 .left) ∙ met _ _ (unlisted (c .before) true (c .if3 .taken)))
+    refusing _ _ _ 4 refl (passed _ _ (unsound (c .before .before .before .before .before .before .before .before .before .before .before) false (c .before .before .before .before .before .before .before .before .before .before .if1 .left)) ∙ passed _ _ (c .before .before .before .before .before .before .before .before .before .if2 .left) ∙ met _ _ (unlisted (c .before) true (c .if3 .taken)))
 
 returns-4 : tie.Need-returns-4
 returns-4 c =
     let none =
     passed _ _ (unsound (c .before .before .before .before .before .before .before .before .before .before .before .before .before .before .before .before .before .before .before .before) false (c .before .before .before .before .before .before .before .before .before .before .before .before .before .before .before .before .before .before .before .if1 .left)) ∙ passed _ _ (c .before .before .before .before .before .before .before .before .before .before .before .before .before .before .before .before .before .before .if2 .left) ∙ passed _ _ (unlisted (c .before .before .before .before .before .before .before .before .before .before) false (c .before .before .before .before .before .before .before .before .before .if3 .left)) ∙ none-met
     in
-    let both = promised _ _ _ 0 none in
-    (ap Answered (c .steps .ensures .0) ∙ both .0, both .1)
+    answering _ _ _ _ (c .steps .ensures .0) (c .steps .ensures .1) none
 
 pub ask-spec : {M : Type 1} → statement M
 ask-spec =

@@ -6,10 +6,10 @@ use Rattle.sessions.proofs.run_commands.Statement.{statement}
 use Rattle.sessions.proofs.run_commands.Tie as tie
 
 abbrev Inv-loop : tie.InvT-loop
-Inv-loop commands s₀ i₀ s i = i ≤ 300
+Inv-loop commands s₀ i₀ s i = i ≤ 311
 
 abbrev μ-loop : tie.MeasureT-loop
-μ-loop commands s₀ i₀ s i = 300 - i
+μ-loop commands s₀ i₀ s i = 311 - i
 
 founding-requires : tie.Need-founding-requires Inv-loop μ-loop
 founding-requires c κs = tt
