@@ -120,22 +120,22 @@ changed-same s (pairOf export) false u a b p ne = same-pair s export b a false p
 
 -- An area that is listed and not the activator's is not area a, but for a structure pair.
 module _ (s : State) (u a b p : ℕ) (here : T (listed s area p)) (silent : T (owns s u p) → ⊥) where
-  not-his : not (owns s u a) ≡ false → p ≡ a → ⊥
-  not-his e q = silent (rw q (so (owns s u a) e))
+  his-area : (t : Target) (v : Bool) → not (owns s u a) ≡ false → Same s (changed s t v u a b) p
+  his-area t v e = changed-same s t v u a b p (λ q. silent (rw q (so (owns s u a) e)))
 
   taken-same : (x : Instruction) → Accepted s x u a b → Same s (successor s x u a b) p
   taken-same ListArea y = changed-same s theArea true u a b p (λ q. fails (y .new) (rw q at here))
-  taken-same UnlistArea y = changed-same s theArea false u a b p (not-his (y .owned))
-  taken-same AddOwner y = changed-same s (pairOf owner) true u a b p (not-his (y .owned))
-  taken-same RemoveOwner y = changed-same s (pairOf owner) false u a b p (not-his (y .owned))
+  taken-same UnlistArea y = his-area theArea false (y .owned)
+  taken-same AddOwner y = his-area (pairOf owner) true (y .owned)
+  taken-same RemoveOwner y = his-area (pairOf owner) false (y .owned)
   taken-same AddStructure y = same-structure s a b true p
   taken-same RemoveStructure y = same-structure s a b false p
-  taken-same Define y = changed-same s (pairOf definition) true u a b p (not-his (y .owned))
-  taken-same RemoveDefinition y = changed-same s (pairOf definition) false u a b p (not-his (y .owned))
-  taken-same AddImport y = changed-same s (pairOf import) true u a b p (not-his (y .owned))
-  taken-same RemoveImport y = changed-same s (pairOf import) false u a b p (not-his (y .owned))
-  taken-same AddExport y = changed-same s (pairOf export) true u a b p (not-his (y .owned))
-  taken-same RemoveExport y = changed-same s (pairOf export) false u a b p (not-his (y .owned))
+  taken-same Define y = his-area (pairOf definition) true (y .owned)
+  taken-same RemoveDefinition y = his-area (pairOf definition) false (y .owned)
+  taken-same AddImport y = his-area (pairOf import) true (y .owned)
+  taken-same RemoveImport y = his-area (pairOf import) false (y .owned)
+  taken-same AddExport y = his-area (pairOf export) true (y .owned)
+  taken-same RemoveExport y = his-area (pairOf export) false (y .owned)
 
 step-same : (s : State) (bytes : Bytes) (p : ℕ) → T (listed s area p) → (T (owns s (bytes .activator) p) → ⊥) → Same s (stepOf s bytes .state) p
 step-same s bytes p here silent = go (stepped s bytes)

@@ -320,6 +320,19 @@ module _ (s : State) (h : Sound s) where
           valid = v;
         }
 
+  -- codes 9 and 11: an entry of object b, whose area a has access
+  entry-add : (r : Relation) → (owner ≡ r → ⊥) → (definition ≡ r → ⊥) → firstKind r ≡ object → (a b : ℕ)
+      → not (listed s area a && listed s object b) ≡ false → not (access (lending (withPair s r b a true) b) a) ≡ false → Sound (withPair s r b a true)
+  entry-add r no-owner no-definition kind a b names reaches =
+      let n = both-so (listed s area a) (listed s object b) names in
+      pair-add r no-owner no-definition b a (record { first = subst (λ (k : Kind). T (listed s k b)) (sym kind) (n .1); second = n .0 })
+      (λ e. so (access (lending (withPair s r b a true) b) a) reaches)
+
+  -- codes 6, 10 and 12: a pair whose loss leaves the state valid
+  valid-cut : (r : Relation) → (owner ≡ r → ⊥) → (definition ≡ r → ⊥) → (i j : ℕ) → not (isValid (withPair s r i j false)) ≡ false → Sound (withPair s r i j false)
+  valid-cut r no-owner no-definition i j valid =
+      pair-remove r no-owner no-definition i j (valid-decided (withPair s r i j false) .0 (so (isValid (withPair s r i j false)) valid))
+
   -- ---- the twelve
   in-range : (o p q : Bool) → not (o && p && q) ≡ false → T p × T q
   in-range o p q e = let t = so (o && p && q) e in (and-right o p (and-left (o && p) q t), and-right (o && p) q t)
@@ -340,21 +353,12 @@ module _ (s : State) (h : Sound s) where
       let n = both-so (listed s area a) (listed s area b) (y .named) in
       pair-add structure (different owner structure tt) (different definition structure tt) a b (record { first = n .0; second = n .1 })
       (λ e. ⊎-elim (λ q. absurd (different import structure tt q)) (λ q. absurd (different export structure tt q)) e)
-  accepted-sound RemoveStructure u a b y =
-      pair-remove structure (different owner structure tt) (different definition structure tt) a b (valid-decided _ .0 (so (isValid (withPair s structure a b false)) (y .valid)))
+  accepted-sound RemoveStructure u a b y = valid-cut structure (different owner structure tt) (different definition structure tt) a b (y .valid)
   accepted-sound Define u a b y =
       object-add a b (below b (limit object) (in-range (ltb u (limit user)) (ltb a (limit area)) (ltb b (limit object)) (y .in-range) .1)) (so (listed s area a) (y .named)) (y .new)
   accepted-sound RemoveDefinition u a b y =
       object-remove a b (so (defines s b a) (y .there)) (valid-decided (object-less a b) .0 (so (isValid (object-less a b)) (y .valid)))
-  accepted-sound AddImport u a b y =
-      let n = both-so (listed s area a) (listed s object b) (y .named) in
-      pair-add import (different owner import tt) (different definition import tt) b a (record { first = n .1; second = n .0 })
-      (λ e. so (access (lending (withPair s import b a true) b) a) (y .reached))
-  accepted-sound RemoveImport u a b y =
-      pair-remove import (different owner import tt) (different definition import tt) b a (valid-decided _ .0 (so (isValid (withPair s import b a false)) (y .valid)))
-  accepted-sound AddExport u a b y =
-      let n = both-so (listed s area a) (listed s object b) (y .named) in
-      pair-add export (different owner export tt) (different definition export tt) b a (record { first = n .1; second = n .0 })
-      (λ e. so (access (lending (withPair s export b a true) b) a) (y .reached))
-  accepted-sound RemoveExport u a b y =
-      pair-remove export (different owner export tt) (different definition export tt) b a (valid-decided _ .0 (so (isValid (withPair s export b a false)) (y .valid)))
+  accepted-sound AddImport u a b y = entry-add import (different owner import tt) (different definition import tt) refl a b (y .named) (y .reached)
+  accepted-sound RemoveImport u a b y = valid-cut import (different owner import tt) (different definition import tt) b a (y .valid)
+  accepted-sound AddExport u a b y = entry-add export (different owner export tt) (different definition export tt) refl a b (y .named) (y .reached)
+  accepted-sound RemoveExport u a b y = valid-cut export (different owner export tt) (different definition export tt) b a (y .valid)
