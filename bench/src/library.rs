@@ -30,6 +30,20 @@ extern "C" {
         b: u8,
         turns: u32,
     ) -> u8;
+
+    fn probe_sound(
+        users: *const bool,
+        areas: *const bool,
+        objects: *const bool,
+        owners: *const bool,
+        definitions: *const bool,
+        structure: *const bool,
+        imports: *const bool,
+        exports: *const bool,
+        turns: u32,
+    ) -> bool;
+
+    fn probe_read(file: *const u8, file_len: usize, turns: u32) -> u8;
 }
 
 /// The number of steps in a shortest chain, 255 for no access.
@@ -71,4 +85,28 @@ pub fn step(s: &mut Record, bytes: Bytes, turns: u32) -> u8 {
             turns,
         )
     }
+}
+
+/// Asks `turns` times whether the record is sound.
+pub fn sound(s: &Record, turns: u32) -> bool {
+    // SAFETY: each pointer is that of an array of the length that the library has for it.
+    unsafe {
+        probe_sound(
+            s.users.as_ptr(),
+            s.areas.as_ptr(),
+            s.objects.as_ptr(),
+            s.owners.as_ptr(),
+            s.definitions.as_ptr(),
+            s.structure.as_ptr(),
+            s.imports.as_ptr(),
+            s.exports.as_ptr(),
+            turns,
+        )
+    }
+}
+
+/// Reads the file `turns` times: its refusal, 0 if it is accepted.
+pub fn read(file: &[u8], turns: u32) -> u8 {
+    // SAFETY: the pointer is that of a live slice, handed over with its length.
+    unsafe { probe_read(file.as_ptr(), file.len(), turns) }
 }

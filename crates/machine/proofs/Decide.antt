@@ -13,7 +13,8 @@ use Rattle.soundness.specs.Tests.{isSound}
 use Rattle.instructions.specs.Instructions.{Bytes, row, Picked, unknown, instruction, instructionOf}
 use Rattle.instructions.specs.Decode.{fits, inRange, decodedAs, decodeOf, decodedNumber}
 use Rattle.instructions.specs.Successor.{successor, successorOf}
-use Rattle.machine.specs.Refusals.{firstMet, checks, decoding, refusals}
+use Rattle.state.specs.Checks.{firstMet}
+use Rattle.machine.specs.Refusals.{checks, decoding, refusals}
 use Rattle.machine.specs.Parts.{early, late}
 use Rattle.machine.specs.Step.{decided, refusalOf, stepOf}
 use Rattle.instructions.specs.declared.Instruction.{Instruction}
@@ -21,7 +22,7 @@ use Rattle.instructions.specs.declared.Instruction.the-variants.{ListArea}
 use Rattle.instructions.specs.declared.Decoded.{Decoded}
 use Rattle.instructions.specs.declared.Decoded.the-variants.{Fits, NoCode, OutOfRange}
 use Rattle.machine.specs.declared.Outcome.{Outcome}
-use Rattle.machine.proofs.First.{met, passed}
+use Rattle.state.proofs.Checks.{met, passed}
 use Rattle.machine.proofs.Late.{checks-in-two}
 
 -- the instruction that was decoded; any, if there is none

@@ -15,13 +15,14 @@ use Rattle.state.proofs.Laws.{list-keeps-pairs, related-else, related-other-rel
 use Rattle.soundness.specs.Sound.{Sound}
 use Rattle.instructions.specs.Instructions.{Bytes, Target, theArea, pairOf, Picked, unknown, instruction, instructionOf}
 use Rattle.instructions.specs.Successor.{withoutOwner, changed, successor, successorOf}
-use Rattle.machine.specs.Refusals.{decoding, refusals, firstMet}
+use Rattle.state.specs.Checks.{firstMet}
+use Rattle.machine.specs.Refusals.{decoding, refusals}
 use Rattle.machine.specs.Step.{refusalOf, stepOf, run}
 use Rattle.machine.specs.Demand3
 use Rattle.machine.specs.Demand3.{Silent, silent-end, silent-next, Guarantee}
 use Rattle.instructions.specs.declared.Instruction.{Instruction}
 use Rattle.instructions.specs.declared.Instruction.the-variants.{ListArea, UnlistArea, AddOwner, RemoveOwner, AddStructure, RemoveStructure, Define, RemoveDefinition, AddImport, RemoveImport, AddExport, RemoveExport}
-use Rattle.machine.proofs.First.{numbered, Passed, all-passed}
+use Rattle.state.proofs.Checks.{numbered, Passed, all-passed}
 use Rattle.machine.proofs.Parts.{different}
 use Rattle.machine.proofs.Kept.{so, Accepted, accepted-sound}
 

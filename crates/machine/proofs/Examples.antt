@@ -8,7 +8,7 @@ use Rattle.state.specs.Walk.{someFrom, someMember, somePair, count}
 use Rattle.access.specs.Lending.{step}
 use Rattle.access.specs.Answer.{longest, spread, reached, access}
 use Rattle.soundness.specs.Tests.{named, consistentOf, allOwn, allOwned, once, allDefined, acceptableOf, someListed, validOf, isSound}
-use Rattle.machine.specs.Refusals.{firstMet}
+use Rattle.state.specs.Checks.{firstMet}
 use Rattle.machine.specs.Step.{refusalOf, stepOf}
 use Rattle.machine.specs.Examples
 

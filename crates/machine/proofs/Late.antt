@@ -16,11 +16,12 @@ use Rattle.state.proofs.Laws.{listed-other, unlist-adds-none, list-shaped, rela
 use Rattle.soundness.specs.Tests.{someListed}
 use Rattle.soundness.proofs.Laws.{some-decided}
 use Rattle.instructions.specs.Successor.{withoutOwner, successor}
-use Rattle.machine.specs.Refusals.{soleOwner, onlyArea, otherOwner, Check, _when_, checks, firstMet}
+use Rattle.state.specs.Checks.{Check, _when_, firstMet}
+use Rattle.machine.specs.Refusals.{soleOwner, onlyArea, otherOwner, checks}
 use Rattle.machine.specs.Parts.{early, late}
 use Rattle.instructions.specs.declared.Instruction.{Instruction}
 use Rattle.instructions.specs.declared.Instruction.the-variants.{ListArea, UnlistArea, AddOwner, RemoveOwner, AddStructure, RemoveStructure, Define, RemoveDefinition, AddImport, RemoveImport, AddExport, RemoveExport}
-use Rattle.machine.proofs.First.{first-of-two}
+use Rattle.state.proofs.Checks.{first-of-two}
 use Rattle.machine.proofs.Parts.{removed, still, unlisted}
 use Rattle.machine.proofs.Kept.{fails-both}
 

@@ -12,7 +12,8 @@ use Rattle.access.specs.Lending.{lending}
 use Rattle.access.specs.Answer.{access}
 use Rattle.soundness.specs.Tests.{someListed, isValid}
 use Rattle.instructions.specs.Instructions.{Target, theArea, pairOf, row}
-use Rattle.machine.specs.Refusals.{isEntry, bearsAccess, Check, _when_, checks}
+use Rattle.state.specs.Checks.{Check, _when_}
+use Rattle.machine.specs.Refusals.{isEntry, bearsAccess, checks}
 use Rattle.instructions.specs.declared.Instruction.{Instruction}
 
 -- checks 3 to 7, the first five of the table

@@ -1,9 +1,10 @@
 -- The refusals of an instruction (document 01, 'Refusals of an instruction'): each condition with the paper's words, and the table in the paper's order. 1
 -- and 2 are the decoder's (instructions, Decode).
 use Prim.Native.Nat.{ℕ}
-use mathlib.Core.Bool.{Bool, true, false, _&&_, _||_, not, cond}
+use mathlib.Core.Bool.{Bool, true, false, _&&_, _||_, not}
 use mathlib.Core.List.{List, [], _∷_}
 use lib.Dec.{eqb}
+use Rattle.state.specs.Checks.{Check, _when_}
 use Rattle.state.specs.Site.{user, area, object, listed, Relation, owner, definition, structure, import, export, related, owns}
 use Rattle.state.specs.Walk.{eachMember, somePair, eachPair, hasFirst, hasSecond}
 use Rattle.state.specs.declared.State.{State}
@@ -117,15 +118,6 @@ bearsAccess (pairOf import) = true
 bearsAccess (pairOf export) = true
 
 -- ---- the table
--- one row: a number, and whether its condition is met
-pub record Check : Type 0 where
-  pub number : ℕ
-  pub met : Bool
-
-infix 3 _when_
-abbrev pub _when_ : ℕ → Bool → Check
-n when c = record { number = n; met = c }
-
 -- 3 ("activator not listed") to 11, for an instruction
 abbrev pub checks : State → Instruction → (u a b : ℕ) → List Check
 checks s x u a b =
@@ -149,8 +141,3 @@ decoding s bytes (instruction x) = (2 when outOfRange (row x .operand) (bytes .a
 -- relations (soundness, claim RecordOfRelations).
 abbrev pub refusals : State → Bytes → List Check
 refusals s bytes = (12 when not (isSound s)) ∷ decoding s bytes (instructionOf (bytes .code))
-
--- the first number whose condition is met, 0 if none is
-unfoldable pub firstMet : List Check → ℕ
-firstMet [] = 0
-firstMet (c ∷ rest) = cond (c .met) (c .number) (firstMet rest)

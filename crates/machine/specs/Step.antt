@@ -13,7 +13,8 @@ use Rattle.soundness.specs.Tests.{isSound}
 use Rattle.instructions.specs.Instructions.{Bytes, numberOf, lookBoth, instructionOf}
 use Rattle.instructions.specs.Decode.{fits}
 use Rattle.instructions.specs.Successor.{successorOf}
-use Rattle.machine.specs.Refusals.{missing, Check, _when_, refusals, firstMet}
+use Rattle.state.specs.Checks.{Check, _when_, firstMet}
+use Rattle.machine.specs.Refusals.{missing, refusals}
 use Rattle.machine.specs.declared.Outcome.{Outcome}
 use Rattle.machine.specs.declared.Reply.{Reply}
 use Rattle.machine.specs.declared.Reply.the-variants.{Refused, Answered}

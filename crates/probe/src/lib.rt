@@ -1,9 +1,11 @@
-// The access question and the step over the C interface, for the benchmark.
+// The access question, the step, soundness and the reader over the C interface, for the benchmark.
 ghost use mathlib.Core.Path.{_≡_};
 ghost use Rattle.access.specs.Lending.{lendingOf};
 ghost use Rattle.access.specs.Answer.{answer, number};
 ghost use Rattle.instructions.specs.Instructions.{fourBytes};
 ghost use Rattle.machine.specs.Step.{outcomeOf, stepOf};
+ghost use Rattle.site_file.specs.Reading.{readOf};
+ghost use Rattle.soundness.specs.Tests.{isSound};
 ghost use Rattle.state.specs.Site.{recordOf};
 use access::Answer;
 use state::State;
@@ -79,4 +81,50 @@ pub extern "C" fn probe_step(
     let new_exports = after.exports;
     *exports = new_exports;
     outcome.refusal
+}
+
+// Is the record sound that the arrays hold? It is asked `turns` times, at least once.
+#[no_mangle]
+pub extern "C" fn probe_sound<'a>(
+    users: &'a [bool; 32],
+    areas: &'a [bool; 32],
+    objects: &'a [bool; 64],
+    owners: &'a [bool; 1024],
+    definitions: &'a [bool; 2048],
+    structure: &'a [bool; 1024],
+    imports: &'a [bool; 2048],
+    exports: &'a [bool; 2048],
+    turns: u32,
+) -> bool
+    ensures { λ r. ⌜ r ≡ isSound (recordOf (now (users .entry)) (now (areas .entry)) (now (objects .entry)) (now (owners .entry)) (now (definitions .entry)) (now (structure .entry)) (now (imports .entry)) (now (exports .entry))) ⌝ }
+{
+    let s = State {
+        users: *users,
+        areas: *areas,
+        objects: *objects,
+        owners: *owners,
+        definitions: *definitions,
+        structure: *structure,
+        imports: *imports,
+        exports: *exports,
+    };
+    let mut sound = soundness::is_sound(s);
+    for _ in 1..turns {
+        sound = soundness::is_sound(s);
+    }
+    sound
+}
+
+// The refusal of the file, 0 if it is accepted. It is read `turns` times, at least once.
+#[no_mangle]
+pub extern "C" fn probe_read(file: &[u8], turns: u32) -> u8
+    ensures { λ r. ⌜ r ≡ readOf (now (file .entry)) .refusal ⌝ }
+{
+    let first = site_file::read(file);
+    let mut refusal = first.refusal;
+    for _ in 1..turns {
+        let again = site_file::read(file);
+        refusal = again.refusal;
+    }
+    refusal
 }

@@ -16,7 +16,7 @@ use Rattle.access.specs.Lending.{lending}
 use Rattle.access.specs.Answer.{access}
 use Rattle.soundness.specs.Sound.{Named, Consistent, Acceptable, Sound}
 use Rattle.soundness.specs.Tests.{named, consistentOf, isConsistent, allOwn, allOwned, once, allDefined, acceptableOf, isAcceptable, someListed, validOf, isValid, isSound}
-use Rattle.soundness.specs.Rows.{soundOf}
+use Rattle.soundness.specs.Rows.{wellFormedOf, soundOf}
 use Rattle.soundness.specs.Claims
 use Rattle.soundness.proofs.Tests.{named-decided, once-decided}
 use Rattle.soundness.proofs.Rows
@@ -67,24 +67,33 @@ each-relation f = (there, λ e. and-both four (f export) (and-both three (f impo
     there t import = and-right three (f import) (and-left four (f export) t)
     there t export = and-right four (f export) t
 
-consistent-decided : (s : State) → T (isConsistent s) ↔ Consistent s
+pub consistent-decided : Claims.ConsistentDecided
 unfolding consistentOf namedIn
 consistent-decided s =
     let e = each-relation (namedIn s) in
     (λ t r. relation-decided s r .0 (e .0 t r), λ c. e .1 (λ r. relation-decided s r .1 (c r)))
 
 -- ---- acceptable
-acceptable-decided : (s : State) → T (isAcceptable s) ↔ Acceptable s
-unfolding acceptableOf allOwn allOwned allDefined
+pub defined-decided : Claims.DefinedDecided
+unfolding allDefined
+defined-decided s =
+    let e = each-member (s .objects) (once (s .definitions)) in
+    (
+      λ t o h. let r = once-decided (s .definitions) o .0 (e .0 t o h) in record { place = r .place; defined = r .there; only = r .only },
+      λ f. e .1 (λ i h. let d = f i h in once-decided (s .definitions) i .1 (record { place = d .place; there = d .defined; only = d .only })),
+    )
+
+pub acceptable-decided : Claims.AcceptableDecided
+unfolding acceptableOf allOwn allOwned
 acceptable-decided s = (
   λ t. record {
     users = λ u h. has-first (s .owners) u .0 (us .0 (and-left own owned (and-left (own && owned) defined t)) u h);
     areas = λ a h. has-second (s .owners) a .0 (ar .0 (and-right own owned (and-left (own && owned) defined t)) a h);
-    objects = λ o h. let r = once-decided (s .definitions) o .0 (ob .0 (and-right (own && owned) defined t) o h) in record { place = r .place; defined = r .there; only = r .only };
+    objects = defined-decided s .0 (and-right (own && owned) defined t);
   },
   λ a. and-both (own && owned) defined
       (and-both own owned (us .1 (λ i h. has-first (s .owners) i .1 (a .users i h))) (ar .1 (λ i h. has-second (s .owners) i .1 (a .areas i h))))
-      (ob .1 (λ i h. let d = a .objects i h in once-decided (s .definitions) i .1 (record { place = d .place; there = d .defined; only = d .only }))),
+      (defined-decided s .1 (a .objects)),
 )
   where
     own : Bool
@@ -102,11 +111,8 @@ acceptable-decided s = (
     ar : T owned ↔ ((i : ℕ) → T (listed s area i) → T (hasSecond (s .owners) i))
     ar = each-member (s .areas) (hasSecond (s .owners))
 
-    ob : T defined ↔ ((i : ℕ) → T (listed s object i) → T (once (s .definitions) i))
-    ob = each-member (s .objects) (once (s .definitions))
-
 -- ---- some area
-pub some-decided : (set : Members) → T (someListed set) ↔ ((i : ℕ) × T (member set i))
+pub some-decided : Claims.SomeDecided
 unfolding someListed
 some-decided set =
     let e = some-member set (λ i. true) in
@@ -206,6 +212,10 @@ record-of-relations s t h k e =
     })
 
 -- ---- the arrays of a record
+pub well-formed-of-record : Claims.WellFormedOfRecord
+unfolding wellFormedOf
+well-formed-of-record s shaped = rw (shape-holds s shaped) refl
+
 pub sound-of-record : Claims.SoundOfRecord
 unfolding isSound soundOf
-sound-of-record s shaped = rw (shape-holds s shaped, valid-by-objects s shaped) refl
+sound-of-record s shaped = rw (well-formed-of-record s shaped, valid-by-objects s shaped) refl

@@ -24,9 +24,10 @@ use Rattle.rows.proofs.Laws.{row-reads, transpose-reads}
 use Rattle.access.specs.Lending.{Lending, moveBy, lendingOf}
 use Rattle.access.specs.Answer.{longest, Areas, has, access, unreached, countsWithin, leastCounts}
 use Rattle.access.proofs.Laws.{access-is-count, counts-of-rows}
-use Rattle.soundness.specs.Rows.{eachBelow, countBelow, cellNamed, cellReached, objectReached}
+use Rattle.state.specs.Below.{eachBelow, countBelow}
+use Rattle.soundness.specs.Rows.{cellNamed, cellReached, objectReached}
 use Rattle.soundness.specs.Tests.{named, allOwn, allOwned, once, validOf}
-use Rattle.soundness.proofs.Each.{each-goes, each-at, each-by, each-stop, each-done, Single, count-one, one-counted}
+use Rattle.state.proofs.Below.{each-goes, each-at, each-by, each-stop, each-done, Single, count-one, one-counted}
 use Rattle.soundness.proofs.Tests.{named-decided, Once, once-decided}
 
 -- ---- where what is there lies

@@ -3,14 +3,28 @@
 use Prim.Native.Nat.{ℕ}
 use mathlib.Core.Path.{_≡_}
 use mathlib.Core.Logic.{_↔_}
+use mathlib.Core.Bool.{_&&_}
 use lib.Dec.{T}
-use Rattle.state.specs.Site.{Relation, related, Shaped, founding}
+use Rattle.state.specs.Cells.{Members, member}
+use Rattle.state.specs.Site.{object, listed, Relation, related, Shaped, founding}
 use Rattle.state.specs.declared.State.{State}
-use Rattle.soundness.specs.Sound.{Valid, Sound}
-use Rattle.soundness.specs.Rows.{objectsReached, soundOf}
-use Rattle.soundness.specs.Tests.{isValid, isSound}
+use Rattle.soundness.specs.Sound.{Consistent, DefinedOnce, Acceptable, Valid, Sound}
+use Rattle.soundness.specs.Rows.{objectsReached, wellFormedOf, soundOf}
+use Rattle.soundness.specs.Tests.{isConsistent, allDefined, isAcceptable, someListed, isValid, isSound}
 
--- the test decides validity
+-- each test decides its part
+abbrev pub ConsistentDecided : Type 0
+ConsistentDecided = (s : State) → T (isConsistent s) ↔ Consistent s
+
+abbrev pub DefinedDecided : Type 0
+DefinedDecided = (s : State) → T (allDefined (s .objects) (s .definitions)) ↔ ((o : ℕ) → T (listed s object o) → DefinedOnce s o)
+
+abbrev pub AcceptableDecided : Type 0
+AcceptableDecided = (s : State) → T (isAcceptable s) ↔ Acceptable s
+
+abbrev pub SomeDecided : Type 0
+SomeDecided = (set : Members) → T (someListed set) ↔ ((i : ℕ) × T (member set i))
+
 abbrev pub ValidDecided : Type 0
 ValidDecided = (s : State) → T (isValid s) ↔ Valid s
 
@@ -22,7 +36,12 @@ ValidByObjects = (s : State) → Shaped s → isValid s ≡ objectsReached (s .d
 abbrev pub SoundDecided : Type 0
 SoundDecided = (s : State) → Shaped s → T (isSound s) ↔ Sound s
 
--- what `are_sound` promises of the arrays lent to it is soundness, where they are a record's
+-- what `are_well_formed` and `are_sound` promise of the arrays lent to them is soundness without validity, and soundness, where they are a record's
+abbrev pub WellFormedOfRecord : Type 0
+WellFormedOfRecord =
+    (s : State) → Shaped s
+    → wellFormedOf (s .users) (s .areas) (s .objects) (s .owners) (s .definitions) (s .structure) (s .imports) (s .exports) ≡ (isConsistent s && isAcceptable s && someListed (s .areas))
+
 abbrev pub SoundOfRecord : Type 0
 SoundOfRecord = (s : State) → Shaped s → isSound s ≡ soundOf (s .users) (s .areas) (s .objects) (s .owners) (s .definitions) (s .structure) (s .imports) (s .exports)
 

@@ -1,27 +1,18 @@
--- What the functions ask and promise of the rows and arrays that they are handed: their number, a test of each number, a count; and for the public ones on lent
--- arrays `objectsReached` and `soundOf`.
-use Prim.Native.Nat.{ℕ, zero, suc, _+_, _*_}
+-- What the functions ask and promise of the rows and arrays that they are handed: their number, and a test of each cell; and for the public ones on lent
+-- arrays `objectsReached`, `wellFormedOf` and `soundOf`.
+use Prim.Native.Nat.{ℕ, _+_, _*_}
 use mathlib.Core.Path.{_≡_}
-use mathlib.Core.Bool.{Bool, true, false, _&&_, _||_, not, cond}
+use mathlib.Core.Bool.{Bool, false, _&&_, _||_, not}
 use mathlib.Core.List.{List}
 use lib.Dec.{eqb}
 use lib.ListN.{length, getD}
+use Rattle.state.specs.Below.{eachBelow}
 use Rattle.state.specs.Cells.{Members, Pairs}
 use Rattle.state.specs.Site.{object, limit}
 use Rattle.rows.specs.Rows.{row}
 use Rattle.access.specs.Lending.{lendingOf}
 use Rattle.access.specs.Answer.{Areas, has, unreached, leastCounts}
 use Rattle.soundness.specs.Tests.{consistentOf, acceptableOf, someListed}
-
--- each number below n meets the test
-unfoldable pub eachBelow : ℕ → (ℕ → Bool) → Bool
-eachBelow zero test = true
-eachBelow (suc n) test = eachBelow n test && test n
-
--- how many numbers below n meet the test
-unfoldable pub countBelow : ℕ → (ℕ → Bool) → ℕ
-countBelow zero test = 0
-countBelow (suc n) test = countBelow n test + cond (test n) 1 0
 
 -- if there is a pair at place j of the row that starts at `from`, its area is listed and so is the row's own number
 abbrev pub cellNamed : (pairs : Pairs) (from : ℕ) (first : Bool) (areas : Members) → ℕ → Bool
@@ -53,8 +44,11 @@ shapedOf users areas objects ow de st im ex =
     eqb (length users) 32 && eqb (length areas) 32 && eqb (length objects) 64 && eqb (length ow) 1024 && eqb (length de) 2048 && eqb (length st) 1024
     && eqb (length im) 2048 && eqb (length ex) 2048
 
+-- the eight lists are those of a record that is sound but for validity: consistent, acceptable, with at least one area
+unfoldable pub wellFormedOf : (users areas objects : Members) (ow de st im ex : Pairs) → Bool
+wellFormedOf users areas objects ow de st im ex =
+    shapedOf users areas objects ow de st im ex && consistentOf users areas objects ow de st im ex && acceptableOf users areas objects ow de && someListed areas
+
 -- the eight lists are those of a sound record
 unfoldable pub soundOf : (users areas objects : Members) (ow de st im ex : Pairs) → Bool
-soundOf users areas objects ow de st im ex =
-    shapedOf users areas objects ow de st im ex && consistentOf users areas objects ow de st im ex && acceptableOf users areas objects ow de && someListed areas
-    && objectsReached de st im ex
+soundOf users areas objects ow de st im ex = wellFormedOf users areas objects ow de st im ex && objectsReached de st im ex

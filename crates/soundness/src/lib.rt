@@ -8,7 +8,8 @@ ghost use Rattle.rows.specs.Rows.{transpose};
 ghost use Rattle.access.specs.Answer.{has};
 ghost use Rattle.soundness.specs.Sound.{Valid, Sound};
 ghost use Rattle.soundness.specs.Tests.{named, allOwn, allDefined, someListed, consistentOf, acceptableOf, isValid, isSound};
-ghost use Rattle.soundness.specs.Rows.{eachBelow, countBelow, cellNamed, cellReached, objectReached, objectsReached, shapedOf, soundOf, RowsFit};
+ghost use Rattle.state.specs.Below.{eachBelow, countBelow};
+ghost use Rattle.soundness.specs.Rows.{cellNamed, cellReached, objectReached, objectsReached, shapedOf, wellFormedOf, soundOf, RowsFit};
 use state::State;
 
 // The count of an area that lacks access.
@@ -210,8 +211,8 @@ fn is_shaped<'a>(
         & (exports.len() == 2048)
 }
 
-// Is the record sound that the eight arrays hold? For whoever has the record and lends it, so that it is not copied.
-pub fn are_sound<'a>(
+// Is the record sound but for validity that the eight arrays hold: consistent, acceptable, with at least one area?
+pub fn are_well_formed<'a>(
     users: &'a [bool; 32],
     areas: &'a [bool; 32],
     objects: &'a [bool; 64],
@@ -221,7 +222,7 @@ pub fn are_sound<'a>(
     imports: &'a [bool; 2048],
     exports: &'a [bool; 2048],
 ) -> bool
-    ensures { λ r. ⌜ r ≡ soundOf (now (users .entry)) (now (areas .entry)) (now (objects .entry)) (now (owners .entry)) (now (definitions .entry)) (now (structure .entry)) (now (imports .entry)) (now (exports .entry)) ⌝ }
+    ensures { λ r. ⌜ r ≡ wellFormedOf (now (users .entry)) (now (areas .entry)) (now (objects .entry)) (now (owners .entry)) (now (definitions .entry)) (now (structure .entry)) (now (imports .entry)) (now (exports .entry)) ⌝ }
 {
     if !is_shaped(
         users,
@@ -250,7 +251,32 @@ pub fn are_sound<'a>(
     if !is_acceptable(*users, *areas, *objects, owners, definitions) {
         return false;
     }
-    if !has_member(areas) {
+    has_member(areas)
+}
+
+// Is the record sound that the eight arrays hold? For whoever has the record and lends it, so that it is not copied.
+pub fn are_sound<'a>(
+    users: &'a [bool; 32],
+    areas: &'a [bool; 32],
+    objects: &'a [bool; 64],
+    owners: &'a [bool; 1024],
+    definitions: &'a [bool; 2048],
+    structure: &'a [bool; 1024],
+    imports: &'a [bool; 2048],
+    exports: &'a [bool; 2048],
+) -> bool
+    ensures { λ r. ⌜ r ≡ soundOf (now (users .entry)) (now (areas .entry)) (now (objects .entry)) (now (owners .entry)) (now (definitions .entry)) (now (structure .entry)) (now (imports .entry)) (now (exports .entry)) ⌝ }
+{
+    if !are_well_formed(
+        users,
+        areas,
+        objects,
+        owners,
+        definitions,
+        structure,
+        imports,
+        exports,
+    ) {
         return false;
     }
     objects_reached(definitions, structure, imports, exports)

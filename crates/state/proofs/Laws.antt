@@ -252,7 +252,7 @@ relate-shaped s r i j v sh =
       relations = λ t. each-relation (λ (c : List Bool). length c ≡ limit (firstKind t) * width) s r i j v t (λ e. length-put (cells s t) i j v ∙ sh .relations t) (sh .relations t);
     }
 
-empty-shaped : Shaped empty
+pub empty-shaped : Laws.EmptyShaped
 unfolding empty
 empty-shaped = record { sets = sets; relations = relations }
   where
@@ -337,6 +337,25 @@ relate-outside s r i j v sh out = same-fields (withPair s r i j v) s (members-re
 
     each : (t : Relation) → cells (withPair s r i j v) t ≡ cells s t
     each t = each-relation (λ (c : List Bool). c ≡ cells s t) s r i j v t (outside t out) refl
+
+-- ---- a pair put into cells
+pub put-same : Laws.PutSame
+put-same c i j v h l = pair-same c i j v h l
+
+pub put-other : Laws.PutOther
+put-other c i j m n v ne = pair-other c i j m n v ne
+
+pub put-length : Laws.PutLength
+put-length c i j v = length-put c i j v
+
+-- ---- the empty record
+pub empty-related : Laws.EmptyRelated
+unfolding empty
+empty-related owner i j = no-pair 1024 i j
+empty-related definition i j = no-pair 2048 i j
+empty-related structure i j = no-pair 1024 i j
+empty-related import i j = no-pair 2048 i j
+empty-related export i j = no-pair 2048 i j
 
 -- ---- the founding state
 pub founding-listed : Laws.FoundingListed

@@ -6,9 +6,9 @@ use mathlib.Core.Bool.{Bool, true, false, _&&_}
 use mathlib.Core.Logic.{_⊎_, _↔_}
 use lib.Dec.{T, eqb}
 use lib.ListN.{length, getD}
-use Rattle.state.specs.Cells.{Members, Pairs, width, member, pair}
+use Rattle.state.specs.Cells.{Members, Pairs, width, member, pair, put}
 use Rattle.state.specs.Walk.{someMember, eachMember, somePair, eachPair, hasFirst, hasSecond}
-use Rattle.state.specs.Site.{Kind, user, area, object, limit, listed, withListed, Relation, owner, firstKind, related, withPair, founding, Shaped}
+use Rattle.state.specs.Site.{Kind, user, area, object, limit, listed, withListed, Relation, owner, firstKind, related, withPair, empty, founding, Shaped}
 use Rattle.state.specs.declared.State.{State}
 
 -- ---- a written number
@@ -60,6 +60,16 @@ AddKeepsPairs = (s : State) (r t : Relation) (i j m n : ℕ) → T (related s t 
 abbrev pub RemoveAddsNone : Type 0
 RemoveAddsNone = (s : State) (r t : Relation) (i j m n : ℕ) → T (related (withPair s r i j false) t m n) → T (related s t m n)
 
+-- ---- a pair put into the cells of a relation by itself, for what fills one before there is a record
+abbrev pub PutSame : Type 0
+PutSame = (c : Pairs) (i j : ℕ) (v : Bool) → j < width → i * width + j < length c → pair (put c i j v) i j ≡ v
+
+abbrev pub PutOther : Type 0
+PutOther = (c : Pairs) (i j m n : ℕ) (v : Bool) → (m ≡ i → n ≡ j → ⊥) → pair (put c i j v) m n ≡ pair c m n
+
+abbrev pub PutLength : Type 0
+PutLength = (c : Pairs) (i j : ℕ) (v : Bool) → length (put c i j v) ≡ length c
+
 -- ---- where a number or a pair lies, for what reads a set or a relation in place
 abbrev pub MemberCell : Type 0
 MemberCell = (c : Members) (i : ℕ) → member c i ≡ getD c i false
@@ -102,6 +112,10 @@ RelatedOutside = (s : State) (r : Relation) (i j : ℕ) → Shaped s → (limit 
 abbrev pub RelateOutside : Type 0
 RelateOutside = (s : State) (r : Relation) (i j : ℕ) (v : Bool) → Shaped s → (limit (firstKind r) ≤ i) ⊎ (limit area ≤ j) → withPair s r i j v ≡ s
 
+-- ---- the empty record
+abbrev pub EmptyRelated : Type 0
+EmptyRelated = (r : Relation) (i j : ℕ) → related empty r i j ≡ false
+
 -- ---- the founding state
 -- "user 0 owns area 0", and nothing else is there
 abbrev pub FoundingListed : Type 0
@@ -120,6 +134,9 @@ ShapedByLengths =
     (s : State)
     → length (s .users) ≡ 32 → length (s .areas) ≡ 32 → length (s .objects) ≡ 64 → length (s .owners) ≡ 1024 → length (s .definitions) ≡ 2048
     → length (s .structure) ≡ 1024 → length (s .imports) ≡ 2048 → length (s .exports) ≡ 2048 → Shaped s
+
+abbrev pub EmptyShaped : Type 0
+EmptyShaped = Shaped empty
 
 abbrev pub FoundingShaped : Type 0
 FoundingShaped = Shaped founding

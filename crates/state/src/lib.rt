@@ -4,7 +4,7 @@ ghost use Prim.Native.Nat.{_+_, _*_};
 ghost use mathlib.Core.Bool.{false};
 ghost use lib.ListN.{getD, set};
 ghost use Rattle.state.specs.Cells.{member, mark, pair, put};
-ghost use Rattle.state.specs.Site.{founding};
+ghost use Rattle.state.specs.Site.{empty, founding};
 
 // One cell for each number, and one for each pair, row by row: the cell of (i, j) is i * 32 + j.
 pub struct State {
@@ -25,11 +25,11 @@ impl State {
 
     pub const OBJECTS: u8 = 64;
 
-    // User 0 owns area 0, and there is nothing else.
-    pub fn founding() -> Self
-        ensures { λ r. ⌜ r ≡ founding ⌝ }
+    // Nothing is listed, and there is no pair.
+    pub fn empty() -> Self
+        ensures { λ r. ⌜ r ≡ empty ⌝ }
     {
-        let mut s = State {
+        State {
             users: [false; 32],
             areas: [false; 32],
             objects: [false; 64],
@@ -38,7 +38,14 @@ impl State {
             structure: [false; 1024],
             imports: [false; 2048],
             exports: [false; 2048],
-        };
+        }
+    }
+
+    // User 0 owns area 0, and there is nothing else.
+    pub fn founding() -> Self
+        ensures { λ r. ⌜ r ≡ founding ⌝ }
+    {
+        let mut s = State::empty();
         s.users[0] = true;
         s.areas[0] = true;
         s.owners[0] = true;
@@ -98,7 +105,7 @@ fn mark_in(cells: &mut [bool], number: u8, present: bool)
 }
 
 // Puts the pair into the relation, or takes it out.
-fn put_in(cells: &mut [bool], first: u8, area: u8, present: bool)
+pub fn put_in(cells: &mut [bool], first: u8, area: u8, present: bool)
     ensures { λ _. ⌜ now (cells .exit) ≡ put (now (cells .entry)) first area present ⌝ }
 {
     if area < State::AREAS {

@@ -11,10 +11,11 @@ use Rattle.access.specs.Claims.{Meaning}
 use Rattle.access.specs.declared.Answer.{Answer}
 use Rattle.soundness.specs.Tests.{isSound}
 use Rattle.instructions.specs.Instructions.{lookBoth}
-use Rattle.machine.specs.Refusals.{missing, firstMet}
+use Rattle.state.specs.Checks.{firstMet}
+use Rattle.machine.specs.Refusals.{missing}
 use Rattle.machine.specs.Step.{questionRefusals, replied, replyOf, Replied}
 use Rattle.machine.specs.declared.Reply.the-variants.{Refused, Answered}
-use Rattle.machine.proofs.First.{met, passed, none-met}
+use Rattle.state.proofs.Checks.{met, passed, none-met}
 use Rattle.machine.proofs.ask.Statement.{statement}
 use Rattle.machine.proofs.ask.Tie as tie
 

@@ -7,7 +7,7 @@ use Rattle.state.specs.Site.{user, listed, recordOf}
 use Rattle.state.specs.declared.State.{State}
 use Rattle.instructions.specs.Instructions.{row}
 use Rattle.machine.specs.Refusals.{missing, missingBy, entitled, entitledBy, present, presentBy, absent, absentBy}
-use Rattle.machine.proofs.First.{met, passed, none-met}
+use Rattle.state.proofs.Checks.{met, passed, none-met}
 use Rattle.machine.proofs.early_refusal.Statement.{statement}
 use Rattle.machine.proofs.early_refusal.Tie as tie
 

@@ -10,10 +10,10 @@ use Rattle.state.proofs.Typed.{shaped-by-type}
 use Rattle.soundness.specs.Rows.{objectsReached}
 use Rattle.soundness.specs.Tests.{isValid}
 use Rattle.soundness.proofs.Laws.{valid-by-objects}
-use Rattle.machine.specs.Refusals.{_when_, firstMet}
+use Rattle.state.specs.Checks.{_when_, firstMet}
 use Rattle.machine.specs.Parts.{late}
 use Rattle.instructions.specs.declared.Instruction.{Instruction}
-use Rattle.machine.proofs.First.{met, passed, none-met}
+use Rattle.state.proofs.Checks.{met, passed, none-met}
 use Rattle.instructions.proofs.Arms.{in-arm}
 use Rattle.machine.proofs.late_refusal.Statement.{statement}
 use Rattle.machine.proofs.late_refusal.Tie as tie

@@ -3,7 +3,7 @@
 use mathlib.Core.Path.{_≡_, refl, sym, ap, _∙_}
 use mathlib.Core.Bool.{false, not}
 use Rattle.soundness.specs.Tests.{someListed}
-use Rattle.machine.proofs.First.{met, passed, none-met}
+use Rattle.state.proofs.Checks.{met, passed, none-met}
 use Rattle.machine.proofs.unlist_refusal.Statement.{statement}
 use Rattle.machine.proofs.unlist_refusal.Tie as tie
 

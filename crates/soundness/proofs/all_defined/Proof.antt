@@ -8,9 +8,9 @@ use native.Mathlib.Omega.{arith}
 use borrow.Author.Tests.{not-true, not-false}
 use lib.ListN.{length, getD}
 use Rattle.state.specs.Cells.{Members, Pairs}
-use Rattle.soundness.specs.Rows.{eachBelow}
+use Rattle.state.specs.Below.{eachBelow}
 use Rattle.soundness.specs.Tests.{once, allDefined}
-use Rattle.soundness.proofs.Each.{each-none}
+use Rattle.state.proofs.Below.{each-none}
 use Rattle.soundness.proofs.Rows.{whereSet, set-goes, set-skips, set-stop, set-done, single-of-row}
 use Rattle.soundness.proofs.all_defined.Statement.{statement}
 use Rattle.soundness.proofs.all_defined.Tie as tie

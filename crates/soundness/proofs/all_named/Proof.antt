@@ -6,8 +6,8 @@ use mathlib.Core.Bool.{true}
 use native.Mathlib.Omega.{arith}
 use borrow.Author.Tests.{not-true, not-false}
 use lib.ListN.{length}
-use Rattle.soundness.specs.Rows.{eachBelow}
-use Rattle.soundness.proofs.Each.{each-none, each-goes, each-stop, each-done}
+use Rattle.state.specs.Below.{eachBelow}
+use Rattle.state.proofs.Below.{each-none, each-goes, each-stop, each-done}
 use Rattle.soundness.proofs.Rows.{rowNamed, named-by-rows}
 use Rattle.soundness.proofs.all_named.Statement.{statement}
 use Rattle.soundness.proofs.all_named.Tie as tie

@@ -9,9 +9,9 @@ use borrow.Author.Tests.{not-true, not-false}
 use lib.ListN.{length, getD}
 use Rattle.state.specs.Cells.{Members, Pairs}
 use Rattle.state.specs.Walk.{hasFirst}
-use Rattle.soundness.specs.Rows.{eachBelow}
+use Rattle.state.specs.Below.{eachBelow}
 use Rattle.soundness.specs.Tests.{allOwn}
-use Rattle.soundness.proofs.Each.{each-none}
+use Rattle.state.proofs.Below.{each-none}
 use Rattle.soundness.proofs.Rows.{whereSet, set-goes, set-skips, set-stop, set-done}
 use Rattle.soundness.proofs.all_own.Statement.{statement}
 use Rattle.soundness.proofs.all_own.Tie as tie

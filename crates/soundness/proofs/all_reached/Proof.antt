@@ -3,8 +3,9 @@
 use Prim.Native.Nat.{_-_, _≤_}
 use mathlib.Core.Path.{_≡_, refl, sym}
 use native.Mathlib.Omega.{arith}
-use Rattle.soundness.specs.Rows.{eachBelow, cellReached}
-use Rattle.soundness.proofs.Each.{each-none, each-step, each-end}
+use Rattle.state.specs.Below.{eachBelow}
+use Rattle.soundness.specs.Rows.{cellReached}
+use Rattle.state.proofs.Below.{each-none, each-step, each-end}
 use Rattle.soundness.proofs.all_reached.Statement.{statement}
 use Rattle.soundness.proofs.all_reached.Tie as tie
 

@@ -1,114 +1,42 @@
--- `soundness::are_sound` meets its contract: the parts in the test's order, the first that fails decides.
+-- `soundness::are_sound` meets its contract: sound is well-formed and valid.
 -- Assumes nothing.
 use mathlib.Core.Path.{_≡_, refl, sym, _∙_}
 use mathlib.Core.Bool.{Bool, true, false, not}
 use borrow.Author.Tests.{not-true, not-false}
 use denote.Ref.{now}
-use Rattle.soundness.specs.Tests.{consistentOf, acceptableOf, someListed}
-use Rattle.soundness.specs.Rows.{objectsReached, shapedOf, soundOf}
-use Rattle.soundness.proofs.Shape.{lengths-fit, owner-cells}
+use Rattle.soundness.specs.Rows.{objectsReached, wellFormedOf, soundOf}
 use Rattle.soundness.proofs.are_sound.Statement.{statement}
 use Rattle.soundness.proofs.are_sound.Tie as tie
 
 -- the parts
-abbrev shape : tie.Start → Bool
-shape c = shapedOf (now (c .args .users)) (now (c .args .areas)) (now (c .args .objects)) (now (c .args .owners)) (now (c .args .definitions)) (now (c .args .structure)) (now (c .args .imports)) (now (c .args .exports))
-
-abbrev consistency : tie.Start → Bool
-consistency c = consistentOf (now (c .args .users)) (now (c .args .areas)) (now (c .args .objects)) (now (c .args .owners)) (now (c .args .definitions)) (now (c .args .structure)) (now (c .args .imports)) (now (c .args .exports))
-
-abbrev acceptability : tie.Start → Bool
-acceptability c = acceptableOf (now (c .args .users)) (now (c .args .areas)) (now (c .args .objects)) (now (c .args .owners)) (now (c .args .definitions))
-
-abbrev an-area : tie.Start → Bool
-an-area c = someListed (now (c .args .areas))
+abbrev form : tie.Start → Bool
+form c = wellFormedOf (now (c .args .users)) (now (c .args .areas)) (now (c .args .objects)) (now (c .args .owners)) (now (c .args .definitions)) (now (c .args .structure)) (now (c .args .imports)) (now (c .args .exports))
 
 abbrev whole : tie.Start → Bool
 whole c = soundOf (now (c .args .users)) (now (c .args .areas)) (now (c .args .objects)) (now (c .args .owners)) (now (c .args .definitions)) (now (c .args .structure)) (now (c .args .imports)) (now (c .args .exports))
 
--- what a call found to fail, and what it found to hold
-no : {found : Bool} (test : Bool) → found ≡ test → not found ≡ true → test ≡ false
-no test e n = sym e ∙ not-true _ n
-
-so : {found : Bool} (test : Bool) → found ≡ test → not found ≡ false → test ≡ true
-so test e n = sym e ∙ not-false _ n
-
-shapeless : (c : tie.Start) → shape c ≡ false → false ≡ whole c
+ill-formed : (c : tie.Start) → form c ≡ false → false ≡ whole c
 unfolding soundOf
-shapeless c a = rw a refl
+ill-formed c a = rw a refl
 
-inconsistent : (c : tie.Start) → shape c ≡ true → consistency c ≡ false → false ≡ whole c
-unfolding soundOf
-inconsistent c a b = rw (a, b) refl
-
-unacceptable : (c : tie.Start) → shape c ≡ true → consistency c ≡ true → acceptability c ≡ false → false ≡ whole c
-unfolding soundOf
-unacceptable c a b d = rw (a, b, d) refl
-
-no-area : (c : tie.Start) → shape c ≡ true → consistency c ≡ true → acceptability c ≡ true → an-area c ≡ false → false ≡ whole c
-unfolding soundOf
-no-area c a b d e = rw (a, b, d, e) refl
-
-if-reached : (c : tie.Start) → shape c ≡ true → consistency c ≡ true → acceptability c ≡ true → an-area c ≡ true
+if-reached : (c : tie.Start) → form c ≡ true
     → objectsReached (now (c .args .definitions)) (now (c .args .structure)) (now (c .args .imports)) (now (c .args .exports)) ≡ whole c
 unfolding soundOf
-if-reached c a b d e = rw (a, b, d, e) refl
+if-reached c a = rw a refl
 
-shaped : (c : tie.Else1) → shape (c .before .before .before .before .before .before .before .before .before .before) ≡ true
-shaped c = so _ (c .before .is-shaped .ensures) (c .if1 .left)
-
-consistent : (c : tie.Else2) → consistency (c .before .before .before .before .before .before .before .before .before .before .before .before .before .before .before .before .before .before .before .before) ≡ true
-consistent c = so _ (c .before .is-consistent .ensures) (c .if2 .left)
-
-acceptable : (c : tie.Else3) → acceptability (c .before .before .before .before .before .before .before .before .before .before .before .before .before .before .before .before .before .before .before .before .before .before .before .before .before .before) ≡ true
-acceptable c = so _ (c .before .is-acceptable .ensures) (c .if3 .left)
-
-is-shaped-requires : tie.Need-is-shaped-requires
-is-shaped-requires c κs = tt
-
-is-consistent-requires : tie.Need-is-consistent-requires
-is-consistent-requires c κs = lengths-fit _ _ _ _ _ _ _ _ (shaped (c .before .before .before .before .before .before .before .before))
-
-is-acceptable-requires : tie.Need-is-acceptable-requires
-is-acceptable-requires c κs =
-    let x = c .before .before .before .before .before .before .before .before .before .before .before .before .before .before .before .before .before .before .before .before .before .before .before .before .args in
-    owner-cells (now (x .users)) (now (x .areas)) (now (x .objects)) (now (x .owners)) (now (x .definitions)) (now (x .structure)) (now (x .imports)) (now (x .exports))
-    (shaped (c .before .before .before .before .before .before .before .before .before .before .before .before .before .before))
-
-has-member-requires : tie.Need-has-member-requires
-has-member-requires c κs = tt
+are-well-formed-requires : tie.Need-are-well-formed-requires
+are-well-formed-requires c κs = tt
 
 objects-reached-requires : tie.Need-objects-reached-requires
 objects-reached-requires c κs = tt
 
 returns : tie.Need-returns
-returns c = shapeless (c .before .before .before .before .before .before .before .before .before .before) (no _ (c .before .is-shaped .ensures) (c .if1 .taken))
+returns c = ill-formed (c .before .before) (sym (c .before .are-well-formed .ensures) ∙ not-true _ (c .if1 .taken))
 
 returns-2 : tie.Need-returns-2
-returns-2 c = inconsistent (c .before .before .before .before .before .before .before .before .before .before .before .before .before .before .before .before .before .before .before .before) (shaped (c .before .before .before .before .before .before .before .before .before .before)) (no _ (c .before .is-consistent .ensures) (c .if2 .taken))
-
-returns-3 : tie.Need-returns-3
-returns-3 c = unacceptable (c .before .before .before .before .before .before .before .before .before .before .before .before .before .before .before .before .before .before .before .before .before .before .before .before .before .before) (shaped (c .before .before .before .before .before .before .before .before .before .before .before .before .before .before .before .before)) (consistent (c .before .before .before .before .before .before)) (no _ (c .before .is-acceptable .ensures) (c .if3 .taken))
-
-returns-4 : tie.Need-returns-4
-returns-4 c = no-area (c .before .before .before .before .before .before .before .before .before .before .before .before .before .before .before .before .before .before .before .before .before .before .before .before .before .before .before .before .before) (shaped (c .before .before .before .before .before .before .before .before .before .before .before .before .before .before .before .before .before .before .before)) (consistent (c .before .before .before .before .before .before .before .before .before)) (acceptable (c .before .before .before)) (no _ (c .before .has-member .ensures) (c .if4 .taken))
-
-returns-5 : tie.Need-returns-5
-returns-5 c =
+returns-2 c =
     c .objects-reached .ensures
-    ∙ if-reached (c .before .before .before .before .before .before .before .before .before .before .before .before .before .before .before .before .before .before .before .before .before .before .before .before .before .before .before .before .before .before .before .before .before) (shaped (c .before .before .before .before .before .before .before .before .before .before .before .before .before .before .before .before .before .before .before .before .before .before .before)) (consistent (c .before .before .before .before .before .before .before .before .before .before .before .before .before)) (acceptable (c .before .before .before .before .before .before .before)) (so _ (c .before .before .before .before .before .has-member .ensures) (c .before .before .before .before .if4 .left))
+    ∙ if-reached (c .before .before .before .before .before .before) (sym (c .before .before .before .before .before .are-well-formed .ensures) ∙ not-false _ (c .before .before .before .before .if1 .left))
 
 pub are-sound-spec : {M : Type 1} → statement M
-are-sound-spec =
-    tie.close
-    (tie.spec
-    is-shaped-requires
-    returns
-    is-consistent-requires
-    returns-2
-    is-acceptable-requires
-    returns-3
-    has-member-requires
-    returns-4
-    objects-reached-requires
-    returns-5)
+are-sound-spec = tie.close (tie.spec are-well-formed-requires returns objects-reached-requires returns-2)

@@ -7,8 +7,8 @@ use native.Mathlib.Omega.{arith}
 use lib.Dec.{eqb}
 use mir.Val.{boolByte}
 use Rattle.access.specs.Answer.{has}
-use Rattle.soundness.specs.Rows.{countBelow}
-use Rattle.soundness.proofs.Each.{count-none, count-more}
+use Rattle.state.specs.Below.{countBelow}
+use Rattle.state.proofs.Below.{count-none, count-more}
 use Rattle.soundness.proofs.is_single.Statement.{statement}
 use Rattle.soundness.proofs.is_single.Tie as tie
 

@@ -6,8 +6,9 @@ use mathlib.Core.Bool.{Bool, true}
 use native.Mathlib.Omega.{arith}
 use borrow.Author.Tests.{not-true, not-false}
 use denote.Ref.{now}
-use Rattle.soundness.specs.Rows.{eachBelow, objectReached}
-use Rattle.soundness.proofs.Each.{each-none, each-goes, each-stop, each-done}
+use Rattle.state.specs.Below.{eachBelow}
+use Rattle.soundness.specs.Rows.{objectReached}
+use Rattle.state.proofs.Below.{each-none, each-goes, each-stop, each-done}
 use Rattle.soundness.proofs.objects_reached.Statement.{statement}
 use Rattle.soundness.proofs.objects_reached.Tie as tie
 

@@ -3,8 +3,9 @@
 use Prim.Native.Nat.{_-_, _≤_}
 use mathlib.Core.Path.{_≡_, refl, sym}
 use native.Mathlib.Omega.{arith}
-use Rattle.soundness.specs.Rows.{eachBelow, cellNamed}
-use Rattle.soundness.proofs.Each.{each-none, each-step, each-end}
+use Rattle.state.specs.Below.{eachBelow}
+use Rattle.soundness.specs.Rows.{cellNamed}
+use Rattle.state.proofs.Below.{each-none, each-step, each-end}
 use Rattle.soundness.proofs.row_named.Statement.{statement}
 use Rattle.soundness.proofs.row_named.Tie as tie
 

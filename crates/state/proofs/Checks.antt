@@ -8,8 +8,8 @@ use mathlib.Core.Path.{_≡_, refl, sym, ap, _∙_}
 use mathlib.Core.Bool.{Bool, true, false, _&&_, not, cond}
 use mathlib.Core.List.{List, [], _∷_, _++_}
 use lib.Dec.{T, eqb}
 use Rattle.state.proofs.Bools.{and-left, and-right, is-false, not-so}
-use Rattle.machine.specs.Refusals.{Check, firstMet}
+use Rattle.state.specs.Checks.{Check, firstMet}
 
 pub met : (c : Check) (rest : List Check) → c .met ≡ true → firstMet (c ∷ rest) ≡ c .number
 unfolding firstMet

@@ -1,21 +1,24 @@
--- `eachBelow` and `countBelow`: one number more, for a loop, and what they say.
+-- `eachBelow`, `countBelow`, `someBelow` and `firstBelow`: one number more, for a loop, and what they say.
 --     each-none, each-more, each-goes     before the first turn, one turn more, and one more that meets the test
 --     each-at, each-by                    each number meets the test
 --     each-stop, each-done                a number that does not, and none left
 --     count-none, count-more              before the first turn, and one turn more
 --     count-one, one-counted              a count of one is exactly one number
+--     some-at, some-by                    some number meets the test
+--     first-is, first-none, first-met     the number that meets it while none before does, none at all, and that it does meet it
 -- Assumes nothing.
 use Prim.Native.Nat.{ℕ, zero, suc, _+_, _≤_, _<_}
 use mathlib.Core.Path.{_≡_, refl, sym, ap, ap₂, subst, _∙_}
 use mathlib.Core.Logic.{_⊎_, inl, inr}
-use mathlib.Core.Bool.{Bool, true, false, _&&_, cond}
+use mathlib.Core.Bool.{Bool, true, false, _&&_, _||_, cond}
 use native.Mathlib.Nat.{not-suc-le-zero}
 use native.Mathlib.Numerals.{add-one}
 use native.Mathlib.Omega.{arith}
-use native.Mathlib.Decide.{ℕ-discrete}
-use lib.Dec.{T}
-use Rattle.state.proofs.Bools.{and-both, and-left, and-right, is-true, is-false, fails, test}
-use Rattle.soundness.specs.Rows.{eachBelow, countBelow}
+use native.Mathlib.Decide.{ℕ-discrete, decLt}
+use lib.Dec.{T, ltb}
+use borrow.Author.Tests.{lt-ltb, le-ltb}
+use Rattle.state.proofs.Bools.{or-left, or-right, or-cases, and-both, and-left, and-right, is-true, is-false, fails, test}
+use Rattle.state.specs.Below.{eachBelow, countBelow, someBelow, firstBelow}
 
 module _ (f : ℕ → Bool) where
   pub each-none : eachBelow 0 f ≡ true
@@ -128,3 +131,65 @@ module _ (f : ℕ → Bool) where
           earlier : Dec (s .place ≡ n) → s .place < n
           earlier (yes e) = absurd (fails q (rw e at (s .met)))
           earlier (no ne) = let b : s .place < suc n = s .below in omega arith
+
+  -- ---- some number
+  pub record Some (n : ℕ) : Type 0 where
+    pub place : ℕ
+    pub below : place < n
+    pub met : T (f place)
+
+  pub some-by : (n k : ℕ) → k < n → T (f k) → T (someBelow n f)
+  unfolding someBelow
+  some-by zero k h t = absurd (not-suc-le-zero h)
+  some-by (suc n) k h t = go (some-by n k) (ℕ-discrete k n)
+    where
+      go : (k < n → T (f k) → T (someBelow n f)) → Dec (k ≡ n) → T (someBelow n f || f n)
+      go before (yes e) = or-right (someBelow n f) (f n) (rw e at t)
+      go before (no ne) = or-left (someBelow n f) (f n) (before (omega arith) t)
+
+  pub some-at : (n : ℕ) → T (someBelow n f) → Some n
+  unfolding someBelow
+  some-at zero t = absurd t
+  some-at (suc n) t = go (some-at n) (or-cases (someBelow n f) (f n) t)
+    where
+      go : (T (someBelow n f) → Some n) → T (someBelow n f) ⊎ T (f n) → Some (suc n)
+      go before (inl s) =
+          let found = before s in
+          let b : found .place < n = found .below in
+          record { place = found .place; below = omega arith; met = found .met }
+      go before (inr m) = record { place = n; below = omega arith; met = m }
+
+  -- ---- the first number
+  pub first-none : (n : ℕ) → ((k : ℕ) → k < n → f k ≡ false) → firstBelow n f ≡ n
+  unfolding firstBelow
+  first-none zero none = refl
+  first-none (suc n) none =
+      rw (first-none n (λ k h. none k (omega arith)), le-ltb n n (omega arith), none n (omega arith)) refl
+
+  pub first-is : (n k : ℕ) → k < n → f k ≡ true → ((m : ℕ) → m < k → f m ≡ false) → firstBelow n f ≡ k
+  unfolding firstBelow
+  first-is zero k h t none = absurd (not-suc-le-zero h)
+  first-is (suc n) k h t none = go (first-is n k) (ℕ-discrete k n)
+    where
+      go : (k < n → f k ≡ true → ((m : ℕ) → m < k → f m ≡ false) → firstBelow n f ≡ k) → Dec (k ≡ n)
+          → cond (ltb (firstBelow n f) n) (firstBelow n f) (cond (f n) n (suc n)) ≡ k
+      go before (yes e) =
+          let met : f n ≡ true = rw e at t in
+          rw (first-none n (λ m hm. none m (omega arith)), le-ltb n n (omega arith), met) (sym e)
+      go before (no ne) =
+          let here : k < n = omega arith in
+          rw (before here t none, lt-ltb k n here) refl
+
+  pub first-met : (n : ℕ) → firstBelow n f < n → f (firstBelow n f) ≡ true
+  unfolding firstBelow
+  first-met zero h = absurd (not-suc-le-zero h)
+  first-met (suc n) h = go (first-met n) (decLt (firstBelow n f) n) (test (f n)) h
+    where
+      first : ℕ
+      first = cond (ltb (firstBelow n f) n) (firstBelow n f) (cond (f n) n (suc n))
+
+      go : (firstBelow n f < n → f (firstBelow n f) ≡ true) → Dec (firstBelow n f < n) → T (f n) ⊎ (f n ≡ false) → first < suc n → f first ≡ true
+      go before (yes b) s h = rw (lt-ltb _ _ b) (before b)
+      go before (no b) (inl t) h = rw (le-ltb (firstBelow n f) n (omega arith), is-true (f n) t) (is-true (f n) t)
+      go before (no b) (inr e) h = absurd (omega (arith, rw (le-ltb (firstBelow n f) n (omega arith), e) at h))
+

@@ -1,0 +1,65 @@
+-- The table of labels in a site file (document 01, 'The site file'): "A label entry has 32 bytes: area, length 1 to 30, the text (bytes 32 to 126), then zeros." A
+-- table is the list of its own bytes.
+--     labelCount, labelArea, labelLength     how many entries there are, and the first two bytes of an entry
+--     labelsFit, labelsAscend, labelsListed  what refusals 26, 27 and 28 ask of the table
+--     labelIndex                             which entry is that of an area
+use Prim.Native.Nat.{ℕ, _+_, _-_, _*_, _/_}
+use mathlib.Core.Bool.{Bool, _&&_, cond}
+use mathlib.Core.List.{List}
+use lib.Dec.{eqb, ltb, leb}
+use lib.ListN.{length, getD}
+use Rattle.state.specs.Below.{eachBelow, firstBelow}
+use Rattle.state.specs.Cells.{Members, member}
+use Rattle.state.specs.Site.{area, limit}
+
+-- "A label entry has 32 bytes", the text and its filler all but two of them
+abbrev pub labelSize : ℕ
+labelSize = 32
+
+abbrev pub textSize : ℕ
+textSize = 30
+
+-- how many entries the table has, and byte i of entry k
+abbrev pub labelCount : List ℕ → ℕ
+labelCount t = length t / labelSize
+
+abbrev pub labelByte : List ℕ → (k i : ℕ) → ℕ
+labelByte t k i = getD t (k * labelSize + i) 0
+
+-- "area, length 1 to 30, the text": the first byte, the second, and the others
+abbrev pub labelArea : List ℕ → ℕ → ℕ
+labelArea t k = labelByte t k 0
+
+abbrev pub labelLength : List ℕ → ℕ → ℕ
+labelLength t k = labelByte t k 1
+
+abbrev pub textByte : List ℕ → (k i : ℕ) → ℕ
+textByte t k i = labelByte t k (2 + i)
+
+-- ---- 26: "a number, length, text byte or filler byte outside its range"
+-- "the text (bytes 32 to 126), then zeros"
+abbrev pub textFits : (size : ℕ) → (i byte : ℕ) → Bool
+textFits size i byte = cond (ltb i size) (leb 32 byte && leb byte 126) (eqb byte 0)
+
+abbrev pub labelFits : List ℕ → ℕ → Bool
+labelFits t k =
+    ltb (labelArea t k) (limit area) && leb 1 (labelLength t k) && leb (labelLength t k) textSize
+    && eachBelow textSize (λ i. textFits (labelLength t k) i (textByte t k i))
+
+unfoldable pub labelsFit : List ℕ → Bool
+labelsFit t = eachBelow (labelCount t) (labelFits t)
+
+-- ---- 27: "not strictly ascending .. (labels by area)"
+abbrev pub labelAscends : List ℕ → ℕ → Bool
+labelAscends t k = ltb (labelArea t k) (labelArea t (k + 1))
+
+unfoldable pub labelsAscend : List ℕ → Bool
+labelsAscend t = eachBelow (labelCount t - 1) (labelAscends t)
+
+-- ---- 28: "an unlisted area .. named"
+unfoldable pub labelsListed : (areas : Members) → List ℕ → Bool
+labelsListed areas t = eachBelow (labelCount t) (λ k. member areas (labelArea t k))
+
+-- ---- the entry of area a: the first with that area, or the count if there is none
+unfoldable pub labelIndex : List ℕ → (a : ℕ) → ℕ
+labelIndex t a = firstBelow (labelCount t) (λ k. eqb (labelArea t k) a)

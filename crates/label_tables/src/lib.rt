@@ -1,0 +1,85 @@
+// The table of labels, as a slice of its own bytes: whether it is in range, ascending and of listed areas, and which entry is an area's.
+ghost use mathlib.Core.Path.{_≡_};
+ghost use Prim.Native.Nat.{_+_, _*_, _≤_};
+ghost use lib.ListN.{length, getD};
+ghost use Rattle.state.specs.Below.{eachBelow};
+ghost use Rattle.label_tables.specs.Labels.{textFits, labelFits, labelsFit, labelsAscend, labelsListed, labelIndex};
+
+// Are the bytes of the text 32 to 126, and those after it 0?
+fn text_fits(table: &[u8], from: usize, size: u8) -> bool
+    requires { ⌜ from + 30 ≤ length (now table) ⌝ }
+    ensures { λ r. ⌜ r ≡ eachBelow 30 (λ i. textFits size i (getD (now (table .entry)) (from + i) 0)) ⌝ }
+{
+    let mut fits = true;
+    for i in 0..30u8 {
+        let byte = table[from + i as usize];
+        if i < size {
+            fits = fits & ((32 <= byte) & (byte <= 126));
+        } else {
+            fits = fits & (byte == 0);
+        }
+    }
+    fits
+}
+
+// Is the entry's area a number of an area, its length 1 to 30, and its text in range?
+fn label_fits(table: &[u8], k: usize) -> bool
+    requires { ⌜ k * 32 + 32 ≤ length (now table) ⌝ }
+    ensures { λ r. ⌜ r ≡ labelFits (now (table .entry)) k ⌝ }
+{
+    let size = table[k * 32 + 1];
+    ((table[k * 32] < 32) & (1 <= size) & (size <= 30)) & text_fits(table, k * 32 + 2, size)
+}
+
+// Is each entry in range?
+pub fn all_fit(table: &[u8]) -> bool
+    ensures { λ r. ⌜ r ≡ labelsFit (now (table .entry)) ⌝ }
+{
+    let count = table.len() / 32;
+    for k in 0..count {
+        if !label_fits(table, k) {
+            return false;
+        }
+    }
+    true
+}
+
+// Is each entry's area below the next's?
+pub fn all_ascend(table: &[u8]) -> bool
+    ensures { λ r. ⌜ r ≡ labelsAscend (now (table .entry)) ⌝ }
+{
+    let count = table.len() / 32;
+    let mut k: usize = 0;
+    let mut fits = true;
+    while k + 1 < count {
+        fits = fits & (table[k * 32] < table[k * 32 + 32]);
+        k = k + 1;
+    }
+    fits
+}
+
+// Is each entry's area listed?
+pub fn all_listed<'a>(areas: &'a [bool], table: &'a [u8]) -> bool
+    ensures { λ r. ⌜ r ≡ labelsListed (now (areas .entry)) (now (table .entry)) ⌝ }
+{
+    let count = table.len() / 32;
+    for k in 0..count {
+        if !state::is_member(areas, table[k * 32]) {
+            return false;
+        }
+    }
+    true
+}
+
+// The entry of the area, or the count of entries if there is none.
+pub fn index_of(table: &[u8], area: u8) -> usize
+    ensures { λ r. ⌜ r ≡ labelIndex (now (table .entry)) area ⌝ }
+{
+    let count = table.len() / 32;
+    for k in 0..count {
+        if table[k * 32] == area {
+            return k;
+        }
+    }
+    count
+}

@@ -1,0 +1,156 @@
+-- The claims of specs/Claims.antt, each proved under its name. A table is known by its places (Pairs.antt), which ascend.
+-- Assumes nothing.
+use Prim.Native.Nat.{ℕ, zero, suc, _+_, _*_, _-_, _/_, _%_, _≤_, _<_}
+use mathlib.Core.Path.{_≡_, refl, sym, _∙_}
+use mathlib.Core.Bool.{Bool, true, false, _||_, or-true, or-false}
+use mathlib.Core.List.{List}
+use native.Mathlib.Numerals.{add-one}
+use native.Mathlib.Omega.{arith}
+use native.Mathlib.Decide.{decLt}
+use lib.Dec.{T, ltb, lt→ltb}
+use lib.Seq.{take-length}
+use Rattle.state.specs.Cells.{width, pair, put}
+use Rattle.state.specs.Below.{someBelow}
+use Rattle.state.proofs.Bools.{and-both, same-test, holds, fails}
+use Rattle.state.proofs.Below.{each-at, each-by}
+use Rattle.state.proofs.Ascending.{Ascends, ascends-by, at-most}
+use Rattle.state.proofs.Laws.{put-same, put-other}
+use Rattle.pair_tables.specs.Pairs.{pairCount, firstOf, secondOf, pairFits, pairsFit, pairAscends, pairsAscend, isPairOf, hasPair, withFirst, atPlace, tableOf}
+use Rattle.pair_tables.specs.Claims
+use Rattle.pair_tables.proofs.Pairs.{placeOf, with-length, is-pair, is-pair-by, has-at, has-by, fits-at, earlier-at, earlier-by, TableTo, whole, below, unique}
+
+-- ---- a table put into a relation
+pub with-pairs-length : Claims.WithPairsLength
+with-pairs-length t cells = with-length (pairCount t) t cells
+
+pub with-pairs-reads : Claims.WithPairsReads
+unfolding hasPair someBelow withFirst
+with-pairs-reads limit t cells fit long i j = first (pairCount t) (omega arith)
+  where
+    step : (n : ℕ) (b c d : Bool) → n < pairCount t → pair (withFirst n t cells) i j ≡ (b || c) → isPairOf t i j n ≡ d
+        → pair (put (withFirst n t cells) (firstOf t n) (secondOf t n) true) i j ≡ (b || (c || d))
+    step n b c true h e q =
+        let same = is-pair t i j n (holds q) in
+        let range = fits-at limit t fit n h in
+        rw (or-true c, or-true b, ← (same .0), ← (same .1))
+        (put-same (withFirst n t cells) (firstOf t n) (secondOf t n) true (range .1) (rw (with-length n t cells, long) (omega (arith, range .0, range .1))))
+    step n b c false h e q =
+        rw (or-false c) (put-other (withFirst n t cells) (firstOf t n) (secondOf t n) i j true (λ x y. fails q (is-pair-by t i j n (sym x) (sym y))) ∙ e)
+
+    first : (n : ℕ) → n ≤ pairCount t → pair (withFirst n t cells) i j ≡ (pair cells i j || someBelow n (isPairOf t i j))
+    first zero h = sym (or-false (pair cells i j))
+    first (suc n) h = step n (pair cells i j) (someBelow n (isPairOf t i j)) (isPairOf t i j n) h (first n (omega arith)) refl
+
+-- ---- the table of a relation
+-- a pair is at its place
+at-place : (related : ℕ → ℕ → Bool) (i j p : ℕ) → j < width → p ≡ i * width + j → atPlace related p ≡ related i j
+at-place related i j p h e =
+    let row : p / width ≡ i = omega arith in
+    let column : p % width ≡ j = omega arith in
+    rw (row, column) refl
+
+-- a table with the relation's places
+module _ (limit : ℕ) (related : ℕ → ℕ → Bool) (t : List ℕ) (o : TableTo related (limit * width) t) where
+  first-below : (k : ℕ) → k < pairCount t → firstOf t k < limit
+  first-below k h = let p : placeOf t k < limit * width = o .ordered .inside k h in omega arith
+
+  fits : T (pairsFit limit t)
+  unfolding pairsFit
+  fits = each-by (pairFits limit t) (pairCount t) at
+    where
+      at : (k : ℕ) → k < pairCount t → T (pairFits limit t k)
+      at k h =
+          and-both (ltb (firstOf t k) limit) (ltb (secondOf t k) width) (lt→ltb (firstOf t k) limit (first-below k h)) (lt→ltb (secondOf t k) width (o .areas k h))
+
+  ascends : T (pairsAscend t)
+  unfolding pairsAscend
+  ascends = each-by (pairAscends t) (pairCount t - 1) at
+    where
+      at : (k : ℕ) → k < pairCount t - 1 → T (pairAscends t k)
+      at k h =
+          earlier-by (firstOf t k) (secondOf t k) (firstOf t (k + 1)) (secondOf t (k + 1))
+          (o .areas (k + 1) (omega arith)) (o .ordered .ascends k (k + 1) (omega arith) (omega arith))
+
+  met : (k : ℕ) → k < pairCount t → T (related (firstOf t k) (secondOf t k))
+  met k h = rw (at-place related (firstOf t k) (secondOf t k) (placeOf t k) (o .areas k h) refl) at (o .ordered .met k h)
+
+  pairs : (i j : ℕ) → i < limit → j < width → hasPair t i j ≡ related i j
+  pairs i j hi hj = same-test (hasPair t i j) (related i j) held there
+    where
+      held : T (hasPair t i j) → T (related i j)
+      held b = let r = has-at t i j b in rw (at-place related i j (placeOf t (r .0)) hj (r .2)) at (o .ordered .met (r .0) (r .1))
+
+      there : T (related i j) → T (hasPair t i j)
+      there b =
+          let r = o .ordered .found (i * width + j) (omega arith) (rw (at-place related i j (i * width + j) hj refl) b) in
+          has-by t i j (r .0) (r .1) (o .areas (r .0) (r .1)) hj (r .2)
+
+  count : pairCount t ≤ limit * width
+  count = at-most (placeOf t) (pairCount t) (limit * width) (o .ordered .ascends) (o .ordered .inside)
+
+  count-once : ((i j k : ℕ) → T (related i j) → T (related i k) → j ≡ k) → pairCount t ≤ limit
+  count-once once = at-most (firstOf t) (pairCount t) limit up first-below
+    where
+      up : Ascends (firstOf t) (pairCount t)
+      up k l h b = go (decLt (firstOf t k) (firstOf t l))
+        where
+          p : placeOf t k < placeOf t l
+          p = o .ordered .ascends k l h b
+
+          go : Dec (firstOf t k < firstOf t l) → firstOf t k < firstOf t l
+          go (yes c) = c
+          go (no c) =
+              let a : secondOf t l < width = o .areas l b in
+              let e : firstOf t k ≡ firstOf t l = omega (arith, p) in
+              let f : secondOf t k ≡ secondOf t l = once (firstOf t l) (secondOf t k) (secondOf t l) (rw e at (met k (omega arith))) (met l b) in
+              absurd (omega (arith, p))
+
+pub table-whole : Claims.TableWhole
+table-whole limit related = whole related (limit * width)
+
+pub table-fits : Claims.TableFits
+table-fits limit related = fits limit related (tableOf limit related) (below related (limit * width))
+
+pub table-ascends : Claims.TableAscends
+table-ascends limit related = ascends limit related (tableOf limit related) (below related (limit * width))
+
+pub table-holds : Claims.TableHolds
+table-holds limit related = pairs limit related (tableOf limit related) (below related (limit * width))
+
+pub table-count : Claims.TableCount
+table-count limit related = count limit related (tableOf limit related) (below related (limit * width))
+
+pub table-count-once : Claims.TableCountOnce
+table-count-once limit related = count-once limit related (tableOf limit related) (below related (limit * width))
+
+-- ---- the single encoding of a relation
+pub table-of-held : Claims.TableOfHeld
+unfolding pairsAscend
+table-of-held limit t full fit up related same = sym (take-length t) ∙ rw full (unique related t (limit * width) (pairCount t) table)
+  where
+    area : (k : ℕ) → k < pairCount t → secondOf t k < width
+    area k h = fits-at limit t fit k h .1
+
+    inside : (k : ℕ) → k < pairCount t → placeOf t k < limit * width
+    inside k h = let b = fits-at limit t fit k h in omega (arith, b .0, b .1)
+
+    next : (k : ℕ) → suc k < pairCount t → placeOf t k < placeOf t (suc k)
+    next k h =
+        let b : T (pairAscends t k) = each-at (pairAscends t) (pairCount t - 1) up k (omega arith) in
+        rw (← (add-one k)) (earlier-at (firstOf t k) (secondOf t k) (firstOf t (k + 1)) (secondOf t (k + 1)) (area k (omega arith)) b)
+
+    held : (p : ℕ) → p < limit * width → atPlace related p ≡ hasPair t (p / width) (p % width)
+    held p h = same (p / width) (p % width) (omega arith) (omega arith)
+
+    table : TableTo related (limit * width) t
+    table =
+        record {
+          long = omega arith;
+          areas = area;
+          ordered = record {
+            ascends = ascends-by (placeOf t) (pairCount t) next;
+            inside = inside;
+            met = λ k h. rw (held (placeOf t k) (inside k h)) (has-by t (placeOf t k / width) (placeOf t k % width) k h (area k h) (omega arith) (omega arith));
+            found = λ p h b. let r = has-at t (p / width) (p % width) (rw (held p h) at b) in (r .0, r .1, omega (arith, r .2));
+          };
+        }

@@ -1,0 +1,92 @@
+-- A file that is accepted is the encoding of the state and the labels that it holds.
+-- Assumes nothing.
+use Prim.Native.Nat.{ℕ, _+_, _*_, _/_}
+use mathlib.Core.Path.{_≡_, refl, sym, ap, ap₂, _∙_}
+use mathlib.Core.List.{List, [], _∷_, _++_, map}
+use native.Mathlib.Omega.{arith}
+use lib.Dec.{T}
+use lib.ListN.{length, drop, length-drop, take-append-drop}
+use Rattle.state.specs.Site.{Relation, owner, definition, structure, import, export, limit, firstKind, related}
+use Rattle.soundness.specs.Sound.{Sound}
+use Rattle.pair_tables.proofs.Laws.{table-of-held}
+use Rattle.site_format.specs.Format.{headerSize, Content, pairsOf, labels, rowOf, tables, countIn, offsetIn, sizeIn, part}
+use Rattle.site_format.specs.Header.{placedFrom}
+use Rattle.site_file.specs.Reading.{stateIn}
+use Rattle.site_file.specs.Encode.{AreBytes, Lawful, contentOf, bodyOf, countsOf, offsetsFrom, fieldBytes, fieldsOf, encode}
+use Rattle.site_file.proofs.Fields.{fieldsFrom, fields-stated}
+use Rattle.site_file.proofs.Placed.{content-of, all-sized, joined, rest-joined, at-offset, behind-it}
+use Rattle.site_file.proofs.Held.{derived, shaped, in-table, sound-by}
+use Rattle.site_file.proofs.Checked.{Checked}
+
+module _ (file : List ℕ) (k : Checked file) where
+  pub sound : Sound (stateIn file)
+  sound = sound-by (stateIn file) (derived file) (shaped file) (k .owned) (k .named) (k .defined-once) (k .valid)
+
+  -- each table has the bytes that its count says, and its count is what its bytes say
+  pub sized : (c : Content) → length (part file c) ≡ sizeIn file c
+  sized = content-of (λ c. length (part file c) ≡ sizeIn file c) (all-sized file tables headerSize (k .placed))
+
+  pairs-whole : (r : Relation) → length (part file (pairsOf r)) ≡ length (part file (pairsOf r)) / 2 * 2
+  pairs-whole owner = let e = sized (pairsOf owner) in omega arith
+  pairs-whole definition = let e = sized (pairsOf definition) in omega arith
+  pairs-whole structure = let e = sized (pairsOf structure) in omega arith
+  pairs-whole import = let e = sized (pairsOf import) in omega arith
+  pairs-whole export = let e = sized (pairsOf export) in omega arith
+
+  counted : (c : Content) → countIn file c ≡ length (part file c) / rowOf c .size
+  counted (pairsOf owner) = let e = sized (pairsOf owner) in omega arith
+  counted (pairsOf definition) = let e = sized (pairsOf definition) in omega arith
+  counted (pairsOf structure) = let e = sized (pairsOf structure) in omega arith
+  counted (pairsOf import) = let e = sized (pairsOf import) in omega arith
+  counted (pairsOf export) = let e = sized (pairsOf export) in omega arith
+  counted labels = let e = sized labels in omega arith
+
+  pub lawful : Lawful (stateIn file) (part file labels)
+  lawful =
+      record {
+        whole = let e = sized labels in omega arith;
+        in-range = k .in-range labels;
+        ascending = k .ascends labels;
+        listed = k .labelled;
+      }
+
+  -- each table's bytes are those that encode what it holds
+  written : (c : Content) → part file c ≡ contentOf (stateIn file) (part file labels) c
+  written (pairsOf r) =
+      table-of-held (limit (firstKind r)) (part file (pairsOf r)) (pairs-whole r) (k .in-range (pairsOf r)) (k .ascends (pairsOf r)) (related (stateIn file) r)
+      (λ i j hi hj. in-table file r (k .in-range (pairsOf r)) i j)
+  written labels = refl
+
+  body : (cs : List Content) → joined file cs ≡ bodyOf (stateIn file) (part file labels) cs
+  body [] = refl
+  body (c ∷ rest) = ap₂ _++_ (written c) (body rest)
+
+  counts : (cs : List Content) → map (countIn file) cs ≡ countsOf (stateIn file) (part file labels) cs
+  counts [] = refl
+  counts (c ∷ rest) = ap₂ _∷_ (counted c ∙ ap (λ (t : List ℕ). length t / rowOf c .size) (written c)) (counts rest)
+
+  offsets : (cs : List Content) (at : ℕ) → T (placedFrom file cs at) → map (offsetIn file) cs ≡ offsetsFrom at (stateIn file) (part file labels) cs
+  offsets [] at t = refl
+  offsets (c ∷ rest) at t =
+      ap₂ _∷_ (at-offset file c rest at t)
+      (offsets rest (at + sizeIn file c) (behind-it file c rest at t)
+      ∙ ap (λ (n : ℕ). offsetsFrom (at + n) (stateIn file) (part file labels) rest) (sym (sized c) ∙ ap length (written c)))
+
+  rest-body : drop headerSize file ≡ bodyOf (stateIn file) (part file labels) tables
+  rest-body = rest-joined file tables headerSize (k .placed) ∙ body tables
+
+  file-long : length file ≡ headerSize + length (bodyOf (stateIn file) (part file labels) tables)
+  file-long =
+      let e : length (drop headerSize file) ≡ length (bodyOf (stateIn file) (part file labels) tables) = ap length rest-body in
+      let d = length-drop headerSize file in
+      let h = k .header-long in
+      omega arith
+
+  fields : fieldsFrom file 0 14 ≡ fieldsOf (stateIn file) (part file labels)
+  fields = ap₂ _∷_ (k .version-known) (ap₂ _∷_ (k .length-stated ∙ file-long) (ap₂ _++_ (counts tables) (offsets tables headerSize (k .placed))))
+
+  pub encoded : AreBytes file → file ≡ encode (stateIn file) (part file labels)
+  unfolding encode
+  encoded bytes =
+      sym (take-append-drop headerSize file)
+      ∙ ap₂ _++_ (fields-stated file bytes 14 0 (k .header-long) ∙ ap fieldBytes fields) rest-body

@@ -1,0 +1,69 @@
+-- Refusals 28 and 29 of a state whose lists follow from its pairs: what 28 asks in the paper's words is what the functions test.
+-- Assumes nothing.
+use Prim.Native.Nat.{ℕ}
+use mathlib.Core.Path.{_≡_, refl, sym, ap, ap₂, _∙_}
+use mathlib.Core.Bool.{Bool, true, false, _&&_, _||_, not}
+use mathlib.Core.List.{List}
+use lib.Dec.{T}
+use Rattle.state.specs.Walk.{somePair}
+use Rattle.state.specs.Site.{area, listed, Shaped}
+use Rattle.state.specs.declared.State.{State}
+use Rattle.state.proofs.Bools.{same-test}
+use Rattle.state.proofs.Laws.{some-pair}
+use Rattle.soundness.specs.Tests.{allDefined, isConsistent, isAcceptable, someListed}
+use Rattle.soundness.specs.Rows.{wellFormedOf}
+use Rattle.soundness.proofs.Laws.{defined-decided, acceptable-decided, some-decided, well-formed-of-record}
+use Rattle.label_tables.specs.Labels.{labelsListed}
+use Rattle.site_file.specs.Reading.{noOwner, namesUnlisted, definedTwice}
+use Rattle.site_file.proofs.Held.{Derived, derived-lists, acceptable-by}
+
+-- the four tests, as the functions join them and as 28 does
+joined : (named defined owned labelled : Bool) → not (named && defined && owned) || not labelled ≡ (not owned || (not named || not labelled) || not defined)
+joined true true true true = refl
+joined true true true false = refl
+joined true true false labelled = refl
+joined true false true true = refl
+joined true false true false = refl
+joined true false false labelled = refl
+joined false defined true labelled = refl
+joined false defined false labelled = refl
+
+-- what `are_well_formed` tells of the record
+abbrev pub formed : State → Bool
+formed s = wellFormedOf (s .users) (s .areas) (s .objects) (s .owners) (s .definitions) (s .structure) (s .imports) (s .exports)
+
+module _ (s : State) (d : Derived s) (shape : Shaped s) where
+  -- it is acceptable where each object is defined once
+  acceptable-is : isAcceptable s ≡ allDefined (s .objects) (s .definitions)
+  acceptable-is =
+      same-test (isAcceptable s) (allDefined (s .objects) (s .definitions)) (λ t. defined-decided s .1 (acceptable-decided s .0 t .objects))
+      (λ t. acceptable-decided s .1 (acceptable-by s d shape t))
+
+  -- there is an area where there is an owner pair
+  some-area-is : someListed (s .areas) ≡ somePair (s .owners) (λ u a. true)
+  some-area-is = same-test (someListed (s .areas)) (somePair (s .owners) (λ u a. true)) owned listing
+    where
+      owned : T (someListed (s .areas)) → T (somePair (s .owners) (λ u a. true))
+      owned t =
+          let r = some-decided (s .areas) .0 t in
+          let o = derived-lists s d shape area (r .0) .0 (r .1) in
+          some-pair (s .owners) (λ u a. true) .1 (o .0, r .0, o .1, tt)
+
+      listing : T (somePair (s .owners) (λ u a. true)) → T (someListed (s .areas))
+      listing t = let o = some-pair (s .owners) (λ u a. true) .0 t in some-decided (s .areas) .1 (o .1, derived-lists s d shape area (o .1) .1 (o .0, o .2))
+
+  -- ---- from what the functions tell of the record, and of a label block
+  module _ (l : List ℕ) where
+    ill-formed : (noOwner s || namesUnlisted s l || definedTwice s) ≡ (not (formed s) || not (labelsListed (s .areas) l))
+    ill-formed =
+        sym
+        (ap (λ (b : Bool). not b || not (labelsListed (s .areas) l)) (well-formed-of-record s shape ∙ ap₂ (λ (a b : Bool). isConsistent s && a && b) acceptable-is some-area-is)
+        ∙ joined (isConsistent s) (allDefined (s .objects) (s .definitions)) (somePair (s .owners) (λ u a. true)) (labelsListed (s .areas) l))
+
+    -- the record alone decides 28, or the labels do
+    pub by-record : {told : Bool} → told ≡ formed s → not told ≡ true → (noOwner s || namesUnlisted s l || definedTwice s) ≡ true
+    by-record e n = ill-formed ∙ ap (λ (b : Bool). b || not (labelsListed (s .areas) l)) (ap not (sym e) ∙ n)
+
+    pub by-labels : {told listed : Bool} (v : Bool) → told ≡ formed s → listed ≡ labelsListed (s .areas) l → not told ≡ false → not listed ≡ v
+        → (noOwner s || namesUnlisted s l || definedTwice s) ≡ v
+    by-labels v e k n m = ill-formed ∙ ap₂ _||_ (ap not (sym e) ∙ n) (ap not (sym k) ∙ m)

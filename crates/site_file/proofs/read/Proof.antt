@@ -1,0 +1,155 @@
+-- `site_file::read` meets its contract: the header's refusal, then 26 and 27, then those of the state; the first that is met decides.
+-- Assumes nothing.
+use Prim.Native.Nat.{ℕ}
+use mathlib.Core.Path.{_≡_, refl, sym, ap, ap₂, subst, _∙_}
+use mathlib.Core.Bool.{Bool, false, not, cond}
+use mathlib.Core.List.{List, _∷_, _++_}
+use borrow.Author.Tests.{eq-eqb, ne-eqb}
+use lib.Dec.{eqb}
+use Rattle.state.specs.Checks.{Check, _when_, firstMet}
+use Rattle.state.specs.Site.{founding}
+use Rattle.state.specs.declared.State.{State}
+use Rattle.state.proofs.Checks.{met, passed, first-of-two}
+use Rattle.soundness.specs.Sound.{Sound}
+use Rattle.site_format.specs.Format.{tables, eachTable, labels, part, ascending}
+use Rattle.site_format.specs.Header.{headerChecks}
+use Rattle.site_file.specs.Reading.{stateIn, tableChecks, stateChecks, refusalOf, readingOf, readOf}
+use Rattle.site_file.specs.declared.Reading.{Reading}
+use Rattle.site_file.proofs.Laws.{read-sound}
+use Rattle.site_file.proofs.read.Statement.{statement}
+use Rattle.site_file.proofs.read.Tie as tie
+
+module _ (file : List ℕ) where
+  -- both promises, from the equation
+  promised : {r : Reading} → r ≡ readOf file → (r ≡ readOf file) × Sound (r .state)
+  promised e = (e, subst (λ (x : Reading). Sound (x .state)) (sym e) (read-sound file))
+
+  -- a reading with a refusal, and one without
+  refusing : {r : Reading} {s : State} {n : ℕ} → r ≡ readingOf n s → s ≡ founding → n ≡ refusalOf file → eqb n 0 ≡ false → (r ≡ readOf file) × Sound (r .state)
+  unfolding readOf
+  refusing e f m z =
+      promised (e ∙ ap₂ readingOf m (f ∙ ap (λ (b : Bool). cond b (stateIn file) founding) (sym z ∙ ap (λ (k : ℕ). eqb k 0) m)))
+
+  accepting : {r : Reading} {s : State} → r ≡ readingOf 0 s → s ≡ stateIn file → 0 ≡ refusalOf file → (r ≡ readOf file) × Sound (r .state)
+  unfolding readOf
+  accepting e f m = promised (e ∙ ap₂ readingOf m (f ∙ ap (λ (k : ℕ). cond (eqb k 0) (stateIn file) founding) m))
+
+  -- the checks behind those of the header, and behind those of the tables
+  abbrev ofState : List Check
+  ofState = stateChecks (stateIn file) (part file labels)
+
+  abbrev later : List Check
+  later = tableChecks file ++ ofState
+
+  of-header : {n : ℕ} → n ≡ firstMet (headerChecks file) → refusalOf file ≡ cond (eqb n 0) (firstMet later) n
+  unfolding refusalOf
+  of-header e = first-of-two (headerChecks file) later tt ∙ ap (λ (k : ℕ). cond (eqb k 0) (firstMet later) k) (sym e)
+
+  in-header : {n : ℕ} → n ≡ firstMet (headerChecks file) → (n ≡ 0 → ⊥) → n ≡ refusalOf file
+  in-header {n} e z = sym (of-header e ∙ ap (λ (b : Bool). cond b (firstMet later) n) (ne-eqb n 0 z))
+
+  behind-header : {n : ℕ} → n ≡ firstMet (headerChecks file) → n ≡ 0 → refusalOf file ≡ firstMet later
+  behind-header {n} e z = of-header e ∙ ap (λ (b : Bool). cond b (firstMet later) n) (eq-eqb n 0 z)
+
+  behind-tables : {n : ℕ} {s : State} → s ≡ stateIn file → n ≡ firstMet (stateChecks s (part file labels)) → refusalOf file ≡ firstMet ofState → n ≡ refusalOf file
+  behind-tables h e m = e ∙ ap (λ (x : State). firstMet (stateChecks x (part file labels))) h ∙ sym m
+
+header-refusal-requires : tie.Need-header-refusal-requires
+header-refusal-requires c κs = tt
+
+founding-requires : tie.Need-founding-requires
+founding-requires c κs = tt
+
+reading-of-requires : tie.Need-reading-of-requires
+reading-of-requires c κs = tt
+
+tables-fit-requires : tie.Need-tables-fit-requires
+tables-fit-requires c κs = tt
+
+founding-requires-2 : tie.Need-founding-requires-2
+founding-requires-2 c κs = tt
+
+reading-of-requires-2 : tie.Need-reading-of-requires-2
+reading-of-requires-2 c κs = tt
+
+tables-ascend-requires : tie.Need-tables-ascend-requires
+tables-ascend-requires c κs = tt
+
+founding-requires-3 : tie.Need-founding-requires-3
+founding-requires-3 c κs = tt
+
+reading-of-requires-3 : tie.Need-reading-of-requires-3
+reading-of-requires-3 c κs = tt
+
+state-in-requires : tie.Need-state-in-requires
+state-in-requires c κs = tt
+
+state-refusal-requires : tie.Need-state-refusal-requires
+state-refusal-requires c κs = c .state-in .ensures
+
+founding-requires-4 : tie.Need-founding-requires-4
+founding-requires-4 c κs = tt
+
+reading-of-requires-4 : tie.Need-reading-of-requires-4
+reading-of-requires-4 c κs = tt
+
+reading-of-requires-5 : tie.Need-reading-of-requires-5
+reading-of-requires-5 c κs = tt
+
+-- what each test that is passed says of the refusal
+headed : (c : tie.Else1) → refusalOf (c .before .before .before .args .file .now) ≡ firstMet (later (c .before .before .before .args .file .now))
+headed c = behind-header _ (c .before .header-refusal .ensures) (c .if1 .left)
+
+ranged : (c : tie.Else2) → refusalOf (c .before .before .before .before .before .args .file .now) ≡ firstMet ((27 when not (eachTable tables (λ x. ascending x (part (c .before .before .before .before .before .args .file .now) x)))) ∷ ofState (c .before .before .before .before .before .args .file .now))
+ranged c = headed (c .before .before) ∙ passed _ _ (ap not (sym (c .before .tables-fit .ensures)) ∙ c .if2 .left)
+
+ascended : (c : tie.Else3) → refusalOf (c .before .before .before .before .before .before .before .args .file .now) ≡ firstMet (ofState (c .before .before .before .before .before .before .before .args .file .now))
+ascended c = ranged (c .before .before) ∙ passed _ _ (ap not (sym (c .before .tables-ascend .ensures)) ∙ c .if3 .left)
+
+returns : tie.Need-returns
+returns c =
+    refusing _ (c .reading-of .ensures) (c .before .founding .ensures) (in-header _ (c .before .before .before .header-refusal .ensures) (c .before .before .if1 .taken)) (ne-eqb _ _ (c .before .before .if1 .taken))
+
+returns-2 : tie.Need-returns-2
+returns-2 c =
+    let refused = headed (c .before .before .before .before) ∙ met _ _ (ap not (sym (c .before .before .before .tables-fit .ensures)) ∙ c .before .before .if2 .taken) in
+    refusing _ (c .reading-of2 .ensures) (c .before .founding2 .ensures) (sym refused) refl
+
+returns-3 : tie.Need-returns-3
+returns-3 c =
+    let refused = ranged (c .before .before .before .before) ∙ met _ _ (ap not (sym (c .before .before .before .tables-ascend .ensures)) ∙ c .before .before .if3 .taken) in
+    refusing _ (c .reading-of3 .ensures) (c .before .founding3 .ensures) (sym refused) refl
+
+returns-4 : tie.Need-returns-4
+returns-4 c =
+    let refused = behind-tables _ (c .before .before .before .before .state-in .ensures) (c .before .before .before .state-refusal .ensures) (ascended (c .before .before .before .before .before)) in
+    refusing _ (c .reading-of4 .ensures) (c .before .founding4 .ensures) refused (ne-eqb _ _ (c .before .before .if4 .taken))
+
+returns-5 : tie.Need-returns-5
+returns-5 c =
+    let accepted = behind-tables _ (c .before .before .before .state-in .ensures) (c .before .before .state-refusal .ensures) (ascended (c .before .before .before .before)) in
+    accepting _ (c .reading-of5 .ensures) (c .before .before .before .state-in .ensures) (sym (c .before .if4 .left) ∙ accepted)
+
+pub read-spec : {M : Type 1} → statement M
+read-spec =
+    tie.close
+    (tie.spec
+    header-refusal-requires
+    founding-requires
+    reading-of-requires
+    returns
+    tables-fit-requires
+    founding-requires-2
+    reading-of-requires-2
+    returns-2
+    tables-ascend-requires
+    founding-requires-3
+    reading-of-requires-3
+    returns-3
+    state-in-requires
+    state-refusal-requires
+    founding-requires-4
+    reading-of-requires-4
+    returns-4
+    reading-of-requires-5
+    returns-5)

@@ -1,0 +1,69 @@
+-- The refusals of a site file in the paper's order, and what an accepted file holds (document 01, 'The site file').
+use Prim.Native.Nat.{ℕ}
+use mathlib.Core.Bool.{Bool, true, _||_, not, cond}
+use mathlib.Core.List.{List, [], _∷_, _++_}
+use lib.Dec.{eqb}
+use Rattle.state.specs.Checks.{Check, _when_, firstMet}
+use Rattle.state.specs.Cells.{Pairs}
+use Rattle.state.specs.Site.{Relation, owner, definition, structure, import, export, cells, recordOf, empty, founding, user, object, limit}
+use Rattle.state.specs.Walk.{somePair}
+use Rattle.state.specs.declared.State.{State}
+use Rattle.rows.specs.Rows.{firsts, seconds}
+use Rattle.soundness.specs.Tests.{allDefined, isConsistent, isValid}
+use Rattle.pair_tables.specs.Pairs.{withPairs}
+use Rattle.label_tables.specs.Labels.{labelsListed}
+use Rattle.site_format.specs.Format.{eachTable, pairsOf, labels, tables, part, inRange, ascending}
+use Rattle.site_format.specs.Header.{headerChecks}
+use Rattle.site_file.specs.declared.Reading.{Reading}
+
+-- ---- the state that a file holds
+-- a relation has the pairs of its table
+abbrev pub relationIn : (file : List ℕ) → Relation → Pairs
+relationIn file r = withPairs (part file (pairsOf r)) (cells empty r)
+
+-- the state of five relations: "Listed users and areas are those in owner pairs; listed objects those in definition pairs."
+abbrev pub stateBy : (Relation → Pairs) → State
+stateBy relation =
+    recordOf (firsts (limit user) (relation owner)) (seconds (relation owner)) (firsts (limit object) (relation definition))
+    (relation owner) (relation definition) (relation structure) (relation import) (relation export)
+
+unfoldable pub stateIn : (file : List ℕ) → State
+stateIn file = stateBy (relationIn file)
+
+-- ---- the conditions
+-- 28: "no owner pair; an unlisted area or object named; an object defined twice"
+abbrev pub noOwner : State → Bool
+noOwner s = not (somePair (s .owners) (λ u a. true))
+
+abbrev pub namesUnlisted : State → (block : List ℕ) → Bool
+namesUnlisted s l = not (isConsistent s) || not (labelsListed (s .areas) l)
+
+abbrev pub definedTwice : State → Bool
+definedTwice s = not (allDefined (s .objects) (s .definitions))
+
+-- ---- the table of refusals
+-- 26 and 27, of the tables' bytes
+abbrev pub tableChecks : (file : List ℕ) → List Check
+tableChecks file =
+    (26 when not (eachTable tables (λ c. inRange c (part file c))))
+    ∷ (27 when not (eachTable tables (λ c. ascending c (part file c))))
+    ∷ []
+
+-- 28 and 29, of the state that the file holds, and of its labels. 29: "an import or export pair whose area lacks access"
+abbrev pub stateChecks : State → (block : List ℕ) → List Check
+stateChecks s l = (28 when noOwner s || namesUnlisted s l || definedTwice s) ∷ (29 when not (isValid s)) ∷ []
+
+-- "Reader refusals, lowest number first over the whole file"
+abbrev pub checks : (file : List ℕ) → List Check
+checks file = headerChecks file ++ tableChecks file ++ stateChecks (stateIn file) (part file labels)
+
+-- the number of the refusal, 0 for a file that is accepted
+unfoldable pub refusalOf : (file : List ℕ) → ℕ
+refusalOf file = firstMet (checks file)
+
+-- the number and the state; "the state beside a refusal is F"
+abbrev pub readingOf : ℕ → State → Reading
+readingOf n s = record { refusal = n; state = s }
+
+unfoldable pub readOf : (file : List ℕ) → Reading
+readOf file = readingOf (refusalOf file) (cond (eqb (refusalOf file) 0) (stateIn file) founding)

@@ -1,0 +1,143 @@
+// Site files: any bytes get a sound state or a refusal number, and an area's label is a part of the caller's file.
+ghost use mathlib.Core.Path.{_≡_};
+ghost use lib.Dec.{eqb};
+ghost use denote.Ref.{ptr};
+ghost use Rattle.state.specs.Checks.{firstMet};
+ghost use Rattle.soundness.specs.Sound.{Sound};
+ghost use Rattle.site_format.specs.Format.{labels, tables, eachTable, part, inRange, ascending, behind};
+ghost use Rattle.site_file.specs.Reading.{stateIn, stateChecks, refusalOf, readingOf, readOf};
+ghost use Rattle.site_file.specs.Finder.{textAt, labelText};
+use state::State;
+
+// The refusal, 0 for none, and the state that the file holds; beside a refusal, the founding state.
+pub struct Reading {
+    pub refusal: u8,
+    pub state: State,
+}
+
+// Is every number, length, text byte and filler byte in its range?
+fn tables_fit(file: &[u8]) -> bool
+    ensures { λ r. ⌜ r ≡ eachTable tables (λ c. inRange c (part (now (file .entry)) c)) ⌝ }
+{
+    pair_tables::all_fit(site_format::owners(file), State::USERS)
+        & pair_tables::all_fit(site_format::definitions(file), State::OBJECTS)
+        & pair_tables::all_fit(site_format::structure(file), State::AREAS)
+        & pair_tables::all_fit(site_format::imports(file), State::OBJECTS)
+        & pair_tables::all_fit(site_format::exports(file), State::OBJECTS)
+        & label_tables::all_fit(site_format::labels(file))
+}
+
+// Is every table strictly ascending?
+fn tables_ascend(file: &[u8]) -> bool
+    ensures { λ r. ⌜ r ≡ eachTable tables (λ c. ascending c (part (now (file .entry)) c)) ⌝ }
+{
+    pair_tables::all_ascend(site_format::owners(file))
+        & pair_tables::all_ascend(site_format::definitions(file))
+        & pair_tables::all_ascend(site_format::structure(file))
+        & pair_tables::all_ascend(site_format::imports(file))
+        & pair_tables::all_ascend(site_format::exports(file))
+        & label_tables::all_ascend(site_format::labels(file))
+}
+
+// The state that the file holds.
+fn state_in(file: &[u8]) -> State
+    ensures { λ r. ⌜ r ≡ stateIn (now (file .entry)) ⌝ }
+{
+    let mut s = State::empty();
+    pair_tables::fill_32(&mut s.owners, site_format::owners(file));
+    pair_tables::fill_64(&mut s.definitions, site_format::definitions(file));
+    pair_tables::fill_32(&mut s.structure, site_format::structure(file));
+    pair_tables::fill_64(&mut s.imports, site_format::imports(file));
+    pair_tables::fill_64(&mut s.exports, site_format::exports(file));
+    let users = rows::firsts_32(&s.owners);
+    s.users = users;
+    let areas = rows::seconds(&s.owners);
+    s.areas = areas;
+    let objects = rows::firsts_64(&s.definitions);
+    s.objects = objects;
+    s
+}
+
+// Of the state that a file holds: the refusal 28 or 29, 0 if there is none.
+fn state_refusal(s: State, file: &[u8]) -> u8
+    requires { ⌜ s ≡ stateIn (now file) ⌝ }
+    ensures { λ r. ⌜ r ≡ firstMet (stateChecks s (part (now (file .entry)) labels)) ⌝ }
+{
+    if !soundness::are_well_formed(
+        &s.users,
+        &s.areas,
+        &s.objects,
+        &s.owners,
+        &s.definitions,
+        &s.structure,
+        &s.imports,
+        &s.exports,
+    ) {
+        return 28;
+    }
+    if !label_tables::all_listed(&s.areas, site_format::labels(file)) {
+        return 28;
+    }
+    if !soundness::objects_reached(&s.definitions, &s.structure, &s.imports, &s.exports) {
+        return 29;
+    }
+    0
+}
+
+// The reading with this number and state.
+fn reading_of(refusal: u8, state: State) -> Reading
+    ensures { λ r. ⌜ r ≡ readingOf refusal state ⌝ }
+{
+    Reading {
+        refusal: refusal,
+        state: state,
+    }
+}
+
+// What a file of any bytes holds, or its refusal with the founding state.
+pub fn read(file: &[u8]) -> Reading
+    ensures equation { λ r. ⌜ r ≡ readOf (now (file .entry)) ⌝ }
+    ensures sound { λ r. ⌜ Sound (r .state) ⌝ }
+{
+    let header = site_format::header_refusal(file);
+    if header != 0 {
+        return reading_of(header, State::founding());
+    }
+    if !tables_fit(file) {
+        return reading_of(26, State::founding());
+    }
+    if !tables_ascend(file) {
+        return reading_of(27, State::founding());
+    }
+    let s = state_in(file);
+    let refusal = state_refusal(s, file);
+    if refusal != 0 {
+        return reading_of(refusal, State::founding());
+    }
+    reading_of(0, s)
+}
+
+// Is the file accepted?
+fn is_accepted(file: &[u8]) -> bool
+    ensures { λ r. ⌜ r ≡ eqb (refusalOf (now (file .entry))) 0 ⌝ }
+{
+    let reading = read(file);
+    reading.refusal == 0
+}
+
+// The text of the area's label, as a part of the file; for a refused file, or an area with no label, the part of length 0 at the file's front.
+pub fn label(file: &[u8], area: u8) -> &[u8]
+    ensures bytes { λ r. ⌜ now r ≡ labelText (now (file .entry)) area ⌝ }
+    ensures place { λ r. ⌜ r .ptr ≡ behind (file .entry .ptr) (textAt (now (file .entry)) area) ⌝ }
+{
+    if !is_accepted(file) {
+        return site_format::part_from(file, 0, 0);
+    }
+    let table = site_format::labels(file);
+    let k = label_tables::index_of(table, area);
+    if table.len() / 32 <= k {
+        return site_format::part_from(file, 0, 0);
+    }
+    let at = site_format::field_at(file, 26) as usize + (k * 32 + 2);
+    site_format::part_from(file, at, table[k * 32 + 1] as usize)
+}

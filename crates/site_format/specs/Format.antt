@@ -1,0 +1,85 @@
+-- The format of a site file as data (document 01, 'The site file'): the header's fields, and one row for each table.
+use Prim.Native.Nat.{ℕ, _+_, _*_}
+use mathlib.Core.Bool.{Bool, true, _&&_}
+use mathlib.Core.List.{List, [], _∷_}
+use lib.ListN.{getD, take, drop}
+use Rattle.state.specs.Site.{Relation, owner, definition, structure, import, export, limit, firstKind}
+use Rattle.pair_tables.specs.Pairs.{pairSize, pairsFit, pairsAscend}
+use Rattle.label_tables.specs.Labels.{labelSize, labelsFit, labelsAscend}
+
+-- "A header of 28 bytes"
+abbrev pub headerSize : ℕ
+headerSize = 28
+
+-- "all fields 16 bits, low byte first"
+abbrev pub field : (file : List ℕ) (at : ℕ) → ℕ
+field file at = getD file at 0 + 256 * getD file (at + 1) 0
+
+-- "version (1), file length, six counts, six offsets"
+abbrev pub version : ℕ
+version = 1
+
+abbrev pub versionAt : ℕ
+versionAt = 0
+
+abbrev pub lengthAt : ℕ
+lengthAt = 2
+
+-- what a table holds
+pub data Content : Type 0 where
+  pairsOf : Relation → Content
+  labels : Content
+
+-- one row: the size of an element, the most of them that there may be, and where in the header their count and the table's offset are stated
+pub record Row : Type 0 where
+  pub size : ℕ
+  pub most : ℕ
+  pub countAt : ℕ
+  pub offsetAt : ℕ
+
+-- "six counts, six offsets; both in the order owners, definitions, structure, imports, exports, labels" .. "Counts are at most 1,024, 64, 1,024, 2,048, 2,048 and 32."
+abbrev pub rowOf : Content → Row
+rowOf (pairsOf owner) = record { size = pairSize; most = 1024; countAt = 4; offsetAt = 16 }
+rowOf (pairsOf definition) = record { size = pairSize; most = 64; countAt = 6; offsetAt = 18 }
+rowOf (pairsOf structure) = record { size = pairSize; most = 1024; countAt = 8; offsetAt = 20 }
+rowOf (pairsOf import) = record { size = pairSize; most = 2048; countAt = 10; offsetAt = 22 }
+rowOf (pairsOf export) = record { size = pairSize; most = 2048; countAt = 12; offsetAt = 24 }
+rowOf labels = record { size = labelSize; most = 32; countAt = 14; offsetAt = 26 }
+
+-- "Tables follow in that order"
+abbrev pub tables : List Content
+tables = pairsOf owner ∷ pairsOf definition ∷ pairsOf structure ∷ pairsOf import ∷ pairsOf export ∷ labels ∷ []
+
+-- each of the tables meets the test
+abbrev pub eachTable : List Content → (Content → Bool) → Bool
+eachTable [] test = true
+eachTable (c ∷ rest) test = test c && eachTable rest test
+
+-- ---- what a file states of a table
+abbrev pub countIn : (file : List ℕ) → Content → ℕ
+countIn file c = field file (rowOf c .countAt)
+
+abbrev pub offsetIn : (file : List ℕ) → Content → ℕ
+offsetIn file c = field file (rowOf c .offsetAt)
+
+-- how many bytes the table has, and which
+abbrev pub sizeIn : (file : List ℕ) → Content → ℕ
+sizeIn file c = countIn file c * rowOf c .size
+
+abbrev pub part : (file : List ℕ) → Content → List ℕ
+part file c = take (sizeIn file c) (drop (offsetIn file c) file)
+
+-- ---- what is asked of a table's own bytes, by its content
+-- "a number, length, text byte or filler byte" is in its range
+abbrev pub inRange : Content → List ℕ → Bool
+inRange (pairsOf r) t = pairsFit (limit (firstKind r)) t
+inRange labels t = labelsFit t
+
+-- "strictly ascending by first byte, then second (labels by area)"
+abbrev pub ascending : Content → List ℕ → Bool
+ascending (pairsOf r) t = pairsAscend t
+ascending labels t = labelsAscend t
+
+-- a part of a slice lies `at` bytes behind the slice's front: the same memory, and no copy. A place in memory is a block and an offset.
+abbrev pub behind : (ℕ × ℕ) → (at : ℕ) → ℕ × ℕ
+behind front at = (front .0, front .1 + at)

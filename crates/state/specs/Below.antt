@@ -1,0 +1,24 @@
+-- Tests of the numbers below a bound: whether each meets one, how many do, and which is the first.
+use Prim.Native.Nat.{ℕ, zero, suc, _+_}
+use mathlib.Core.Bool.{Bool, true, false, _&&_, _||_, cond}
+use lib.Dec.{ltb}
+
+-- each number below n meets the test
+unfoldable pub eachBelow : ℕ → (ℕ → Bool) → Bool
+eachBelow zero test = true
+eachBelow (suc n) test = eachBelow n test && test n
+
+-- how many numbers below n meet the test
+unfoldable pub countBelow : ℕ → (ℕ → Bool) → ℕ
+countBelow zero test = 0
+countBelow (suc n) test = countBelow n test + cond (test n) 1 0
+
+-- some number below n meets the test
+unfoldable pub someBelow : ℕ → (ℕ → Bool) → Bool
+someBelow zero test = false
+someBelow (suc n) test = someBelow n test || test n
+
+-- the first number below n that meets the test, n if none does
+unfoldable pub firstBelow : ℕ → (ℕ → Bool) → ℕ
+firstBelow zero test = 0
+firstBelow (suc n) test = cond (ltb (firstBelow n test) n) (firstBelow n test) (cond (test n) n (suc n))

@@ -1,0 +1,18 @@
+-- "What is refused gets the first number whose condition is met": a table of refusals in the order of its checks, and the number that it gives.
+use Prim.Native.Nat.{ℕ}
+use mathlib.Core.Bool.{Bool, cond}
+use mathlib.Core.List.{List, [], _∷_}
+
+-- one row: a number, and whether its condition is met
+pub record Check : Type 0 where
+  pub number : ℕ
+  pub met : Bool
+
+infix 3 _when_
+abbrev pub _when_ : ℕ → Bool → Check
+n when c = record { number = n; met = c }
+
+-- the first number whose condition is met, 0 if none is
+unfoldable pub firstMet : List Check → ℕ
+firstMet [] = 0
+firstMet (c ∷ rest) = cond (c .met) (c .number) (firstMet rest)
