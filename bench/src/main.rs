@@ -3,6 +3,7 @@
 
 mod agree;
 mod chance;
+mod files;
 mod library;
 mod plain;
 mod record;
@@ -16,6 +17,7 @@ use std::time::Instant;
 
 const ROUNDS: usize = 25;
 const COMPARED: u32 = 40_000;
+const BOTH: [&str; 2] = ["library", "plain"];
 
 /// How many turns take about 10 ms.
 fn turns_for(turns_of: &mut impl FnMut(u32)) -> u32 {
@@ -31,15 +33,15 @@ fn time(turns_of: &mut impl FnMut(u32), turns: u32) -> f64 {
     began.elapsed().as_secs_f64() * 1e6 / f64::from(turns)
 }
 
-/// Times both by turns, so that a slow moment of the machine meets both alike, and prints the least time of each.
-fn race(name: &str, mut library: impl FnMut(u32), mut plain: impl FnMut(u32)) {
+/// Times two by turns, so that a slow moment of the machine meets both alike, and prints the least time of each.
+fn race(name: &str, whose: [&str; 2], mut library: impl FnMut(u32), mut plain: impl FnMut(u32)) {
     let (library_turns, plain_turns) = (turns_for(&mut library), turns_for(&mut plain));
     let mut best = [f64::INFINITY; 2];
     for _ in 0..ROUNDS {
         best[0] = best[0].min(time(&mut library, library_turns));
         best[1] = best[1].min(time(&mut plain, plain_turns));
     }
-    println!("bench {name}: library {:.2} us, plain {:.2} us, ratio {:.2}", best[0], best[1], best[0] / best[1]);
+    println!("bench {name}: {} {:.2} us, {} {:.2} us, ratio {:.2}", whose[0], best[0], whose[1], best[1], best[0] / best[1]);
 }
 
 fn time_access() {
@@ -64,7 +66,7 @@ fn time_access() {
                 black_box(plain::steps(black_box(s), black_box(area), black_box(object)));
             }
         };
-        race(name, by_library, by_plain);
+        race(name, BOTH, by_library, by_plain);
     }
 }
 
@@ -90,7 +92,24 @@ fn time_step() {
                 let _ = black_box(plain::step(black_box(s), black_box(bytes)));
             }
         };
-        race(name, by_library, by_plain);
+        race(name, BOTH, by_library, by_plain);
+    }
+}
+
+/// Reading a file, beside the soundness of the state that it holds.
+fn time_read() {
+    let (largest, chain) = (states::largest(), states::chain());
+    for (name, s) in [("read largest", &largest), ("read chain", &chain)] {
+        let file = files::file(s);
+        assert_eq!(library::read(&file, 1), 0, "{name}");
+        assert!(library::sound(s, 1), "{name}");
+        let reading = |turns| {
+            black_box(library::read(black_box(&file), turns));
+        };
+        let soundness = |turns| {
+            black_box(library::sound(black_box(s), turns));
+        };
+        race(&format!("{name} ({} bytes)", file.len()), ["read", "is_sound"], reading, soundness);
     }
 }
 
@@ -110,4 +129,5 @@ fn main() {
     agree::compare(count);
     time_access();
     time_step();
+    time_read();
 }

@@ -47,12 +47,18 @@ fn full() -> Record {
     s
 }
 
-/// Every structure, import and export pair, but for one import.
-pub fn dense() -> Record {
+/// Every structure, import and export pair: no state has a longer file.
+pub fn largest() -> Record {
     let mut s = full();
     s.structure.fill(true);
     s.imports.fill(true);
     s.exports.fill(true);
+    s
+}
+
+/// The largest but for one import.
+pub fn dense() -> Record {
+    let mut s = largest();
     s.imports[cell(63, 31)] = false;
     s
 }
