@@ -110,7 +110,8 @@ pub extern "C" fn probe_sound<'a>(
     };
     let mut sound = soundness::is_sound(s);
     for _ in 1..turns {
-        sound = soundness::is_sound(s);
+        let again = soundness::is_sound(s);
+        sound = again;
     }
     sound
 }

@@ -116,14 +116,31 @@ module _ (s : State) (l : List ℕ) (h : Sound s) (law : Lawful s l) where
     counted labels = at-field 7 (omega arith)
 
     stated : Stated file s l tables headerSize
-    stated =
-        (at-field 8 (omega arith), bytes (pairsOf owner) (counted (pairsOf owner)),
-        (at-field 9 (omega arith), bytes (pairsOf definition) (counted (pairsOf definition)),
-        (at-field 10 (omega arith), bytes (pairsOf structure) (counted (pairsOf structure)),
-        (at-field 11 (omega arith), bytes (pairsOf import) (counted (pairsOf import)),
-        (at-field 12 (omega arith), bytes (pairsOf export) (counted (pairsOf export)),
-        (at-field 13 (omega arith), bytes labels (counted labels),
-        tt))))))
+    stated = (
+      at-field 8 (omega arith),
+      bytes (pairsOf owner) (counted (pairsOf owner)),
+      (
+        at-field 9 (omega arith),
+        bytes (pairsOf definition) (counted (pairsOf definition)),
+        (
+          at-field 10 (omega arith),
+          bytes (pairsOf structure) (counted (pairsOf structure)),
+          (
+            at-field 11 (omega arith),
+            bytes (pairsOf import) (counted (pairsOf import)),
+            (
+              at-field 12 (omega arith),
+              bytes (pairsOf export) (counted (pairsOf export)),
+              (
+                at-field 13 (omega arith),
+                bytes labels (counted labels),
+                tt,
+              ),
+            ),
+          ),
+        ),
+      ),
+    )
 
     -- each table's bytes are those that were written
     pub written : (c : Content) → part file c ≡ contentOf s l c

@@ -1,10 +1,10 @@
 -- Laws has the claims of specs/. The others are this crate's own: Fields for the header's bytes, Placed for where tables stand, Held for the state that a file holds, Checked
--- for what the refusals say together, Accept and Encoded for the two directions of the single encoding, and Refused for 28 as the functions test it.
+-- for what the refusals say together, Accept and Encoded for the two directions of the single encoding, and Formed for 28 as the functions test it.
 mod Fields
 mod Placed
 mod Held
 mod Checked
 mod Accept
 mod Encoded
-mod Refused
+mod Formed
 pub mod Laws

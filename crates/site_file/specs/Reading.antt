@@ -42,12 +42,15 @@ abbrev pub definedTwice : State → Bool
 definedTwice s = not (allDefined (s .objects) (s .definitions))
 
 -- ---- the table of refusals
--- 26 and 27, of the tables' bytes
+-- 26 and 27, of the tables' bytes: "a number, length, text byte or filler byte outside its range"; "a table not strictly ascending"
+abbrev pub outOfRange : (file : List ℕ) → Check
+outOfRange file = 26 when not (eachTable tables (λ c. inRange c (part file c)))
+
+abbrev pub outOfOrder : (file : List ℕ) → Check
+outOfOrder file = 27 when not (eachTable tables (λ c. ascending c (part file c)))
+
 abbrev pub tableChecks : (file : List ℕ) → List Check
-tableChecks file =
-    (26 when not (eachTable tables (λ c. inRange c (part file c))))
-    ∷ (27 when not (eachTable tables (λ c. ascending c (part file c))))
-    ∷ []
+tableChecks file = outOfRange file ∷ outOfOrder file ∷ []
 
 -- 28 and 29, of the state that the file holds, and of its labels. 29: "an import or export pair whose area lacks access"
 abbrev pub stateChecks : State → (block : List ℕ) → List Check

@@ -1,8 +1,10 @@
 // Site files: any bytes get a sound state or a refusal number, and an area's label is a part of the caller's file.
 ghost use mathlib.Core.Path.{_≡_};
+ghost use mathlib.Core.List.{[]};
 ghost use lib.Dec.{eqb};
 ghost use denote.Ref.{ptr};
 ghost use Rattle.state.specs.Checks.{firstMet};
+ghost use Rattle.state.specs.Site.{founding};
 ghost use Rattle.soundness.specs.Sound.{Sound};
 ghost use Rattle.site_format.specs.Format.{labels, tables, eachTable, part, inRange, ascending, behind};
 ghost use Rattle.site_file.specs.Reading.{stateIn, stateChecks, refusalOf, readingOf, readOf};
@@ -84,13 +86,13 @@ fn state_refusal(s: State, file: &[u8]) -> u8
     0
 }
 
-// The reading with this number and state.
-fn reading_of(refusal: u8, state: State) -> Reading
-    ensures { λ r. ⌜ r ≡ readingOf refusal state ⌝ }
+// The reading of a file that is refused with this number.
+fn refused(number: u8) -> Reading
+    ensures { λ r. ⌜ r ≡ readingOf number founding ⌝ }
 {
     Reading {
-        refusal: refusal,
-        state: state,
+        refusal: number,
+        state: State::founding(),
     }
 }
 
@@ -101,20 +103,23 @@ pub fn read(file: &[u8]) -> Reading
 {
     let header = site_format::header_refusal(file);
     if header != 0 {
-        return reading_of(header, State::founding());
+        return refused(header);
     }
     if !tables_fit(file) {
-        return reading_of(26, State::founding());
+        return refused(26);
     }
     if !tables_ascend(file) {
-        return reading_of(27, State::founding());
+        return refused(27);
     }
     let s = state_in(file);
     let refusal = state_refusal(s, file);
     if refusal != 0 {
-        return reading_of(refusal, State::founding());
+        return refused(refusal);
     }
-    reading_of(0, s)
+    Reading {
+        refusal: 0,
+        state: s,
+    }
 }
 
 // Is the file accepted?
@@ -125,18 +130,26 @@ fn is_accepted(file: &[u8]) -> bool
     reading.refusal == 0
 }
 
+// The part of length 0 at the file's front.
+fn front(file: &[u8]) -> &[u8]
+    ensures bytes { λ r. ⌜ now r ≡ [] ⌝ }
+    ensures place { λ r. ⌜ r .ptr ≡ behind (file .entry .ptr) 0 ⌝ }
+{
+    &file[0..0]
+}
+
 // The text of the area's label, as a part of the file; for a refused file, or an area with no label, the part of length 0 at the file's front.
 pub fn label(file: &[u8], area: u8) -> &[u8]
     ensures bytes { λ r. ⌜ now r ≡ labelText (now (file .entry)) area ⌝ }
     ensures place { λ r. ⌜ r .ptr ≡ behind (file .entry .ptr) (textAt (now (file .entry)) area) ⌝ }
 {
     if !is_accepted(file) {
-        return site_format::part_from(file, 0, 0);
+        return front(file);
     }
     let table = site_format::labels(file);
     let k = label_tables::index_of(table, area);
     if table.len() / 32 <= k {
-        return site_format::part_from(file, 0, 0);
+        return front(file);
     }
     let at = site_format::field_at(file, 26) as usize + (k * 32 + 2);
     site_format::part_from(file, at, table[k * 32 + 1] as usize)

@@ -77,8 +77,7 @@ consistent-decided s =
 pub defined-decided : Claims.DefinedDecided
 unfolding allDefined
 defined-decided s =
-    let e = each-member (s .objects) (once (s .definitions)) in
-    (
+    let e = each-member (s .objects) (once (s .definitions)) in (
       λ t o h. let r = once-decided (s .definitions) o .0 (e .0 t o h) in record { place = r .place; defined = r .there; only = r .only },
       λ f. e .1 (λ i h. let d = f i h in once-decided (s .definitions) i .1 (record { place = d .place; there = d .defined; only = d .only })),
     )

@@ -192,4 +192,3 @@ module _ (f : ℕ → Bool) where
       go before (yes b) s h = rw (lt-ltb _ _ b) (before b)
       go before (no b) (inl t) h = rw (le-ltb (firstBelow n f) n (omega arith), is-true (f n) t) (is-true (f n) t)
       go before (no b) (inr e) h = absurd (omega (arith, rw (le-ltb (firstBelow n f) n (omega arith), e) at h))
-

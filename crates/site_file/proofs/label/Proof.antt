@@ -3,7 +3,7 @@
 use Prim.Native.Nat.{ℕ, _+_, _*_, min}
 use mathlib.Core.Path.{_≡_, sym, ap, ap₂, _∙_}
 use mathlib.Core.Bool.{Bool, true, false, _&&_, not, cond}
-use mathlib.Core.List.{List}
+use mathlib.Core.List.{List, []}
 use native.Mathlib.Omega.{arith}
 use borrow.Author.Tests.{lt-ltb, le-ltb, not-true, not-false}
 use lib.Dec.{eqb, ltb}
@@ -55,11 +55,16 @@ module _ (file : List ℕ) (a : ℕ) where
       let inside : min at (length file) ≡ textAt file a = omega (arith, label-inside file a, e) in
       (b ∙ ap₂ (λ (n m : ℕ). take n (drop m file)) f e, p ∙ ap (behind front) inside)
 
+  -- the part at the front
+  at-front : (front : ℕ × ℕ) {bytes : List ℕ} {place : ℕ × ℕ} → hasLabel file a ≡ false → bytes ≡ [] → place ≡ behind front 0
+      → (bytes ≡ labelText file a) × (place ≡ behind front (textAt file a))
+  at-front front n b p = (b ∙ ap (λ (k : ℕ). take k (drop (textAt file a) file)) (none-long n), p ∙ ap (behind front) (none-at n))
+
 is-accepted-requires : tie.Need-is-accepted-requires
 is-accepted-requires c κs = tt
 
-part-from-requires : tie.Need-part-from-requires
-part-from-requires c κs = tt
+front-requires : tie.Need-front-requires
+front-requires c κs = tt
 
 labels-requires : tie.Need-labels-requires
 labels-requires c κs = tt
@@ -67,14 +72,14 @@ labels-requires c κs = tt
 index-of-requires : tie.Need-index-of-requires
 index-of-requires c κs = tt
 
-part-from-requires-2 : tie.Need-part-from-requires-2
-part-from-requires-2 c κs = tt
+front-requires-2 : tie.Need-front-requires-2
+front-requires-2 c κs = tt
 
 field-at-requires : tie.Need-field-at-requires
 field-at-requires c κs = tt
 
-part-from-requires-3 : tie.Need-part-from-requires-3
-part-from-requires-3 c κs = tt
+part-from-requires : tie.Need-part-from-requires
+part-from-requires c κs = tt
 
 cast-at : tie.Need-cast-at
 cast-at c = omega arith
@@ -103,30 +108,30 @@ cast-part-from c = omega (arith, c .shared-slice-known2 .given (c .before .befor
 returns : tie.Need-returns
 returns c =
     let no-label = refused _ (c .before .before .before .before .args .area) (c .before .before .is-accepted .ensures) (c .before .if1 .taken) in
-    placed _ _ _ 0 0 (none-at _ _ no-label) (none-long _ _ no-label) (c .part-from .ensures .0) (c .part-from .ensures .1)
+    at-front _ _ _ no-label (c .front .ensures .0) (c .front .ensures .1)
 
 returns-2 : tie.Need-returns-2
 returns-2 c =
     let no-label = entry _ (c .before .before .before .before .before .before .before .args .area) false (c .before .before .before .before .before .is-accepted .ensures) (c .before .before .before .before .if1 .left) (c .before .before .before .labels .ensures) (c .before .before .index-of .ensures) (le-ltb _ _ (c .before .if2 .taken)) in
-    placed _ _ _ 0 0 (none-at _ _ no-label) (none-long _ _ no-label) (c .part-from2 .ensures .0) (c .part-from2 .ensures .1)
+    at-front _ _ _ no-label (c .front2 .ensures .0) (c .front2 .ensures .1)
 
 returns-3 : tie.Need-returns-3
 returns-3 c =
     let table = c .before .before .before .before .before .labels .ensures in
     let k = c .before .before .before .before .index-of .ensures in
     let found = entry _ (c .before .before .before .before .before .before .before .before .before .args .area) true (c .before .before .before .before .before .before .before .is-accepted .ensures) (c .before .before .before .before .before .before .if1 .left) table k (lt-ltb _ _ (c .before .before .before .if2 .left)) in
-    placed _ _ _ _ _ (entry-at _ _ found table k (c .before .before .field-at .ensures)) (entry-long _ _ found table k) (c .part-from3 .ensures .0) (c .part-from3 .ensures .1)
+    placed _ _ _ _ _ (entry-at _ _ found table k (c .before .before .field-at .ensures)) (entry-long _ _ found table k) (c .part-from .ensures .0) (c .part-from .ensures .1)
 
 pub label-spec : {M : Type 1} → statement M
 label-spec =
     tie.close
     (tie.spec
     is-accepted-requires
-    part-from-requires
+    front-requires
     returns
     labels-requires
     index-of-requires
-    part-from-requires-2
+    front-requires-2
     returns-2
     field-at-requires
     cast-at
@@ -137,5 +142,5 @@ label-spec =
     add-part-from
     shared-slice-read-part-from
     cast-part-from
-    part-from-requires-3
+    part-from-requires
     returns-3)

@@ -25,14 +25,14 @@ module _ (file : List ℕ) where
   promised e = (e, subst (λ (x : Reading). Sound (x .state)) (sym e) (read-sound file))
 
   -- a reading with a refusal, and one without
-  refusing : {r : Reading} {s : State} {n : ℕ} → r ≡ readingOf n s → s ≡ founding → n ≡ refusalOf file → eqb n 0 ≡ false → (r ≡ readOf file) × Sound (r .state)
+  refusing : {r : Reading} {n : ℕ} → r ≡ readingOf n founding → n ≡ refusalOf file → eqb n 0 ≡ false → (r ≡ readOf file) × Sound (r .state)
   unfolding readOf
-  refusing e f m z =
-      promised (e ∙ ap₂ readingOf m (f ∙ ap (λ (b : Bool). cond b (stateIn file) founding) (sym z ∙ ap (λ (k : ℕ). eqb k 0) m)))
+  refusing e m z =
+      promised (e ∙ ap₂ readingOf m (ap (λ (b : Bool). cond b (stateIn file) founding) (sym z ∙ ap (λ (k : ℕ). eqb k 0) m)))
 
-  accepting : {r : Reading} {s : State} → r ≡ readingOf 0 s → s ≡ stateIn file → 0 ≡ refusalOf file → (r ≡ readOf file) × Sound (r .state)
+  accepting : {s : State} → s ≡ stateIn file → 0 ≡ refusalOf file → (readingOf 0 s ≡ readOf file) × Sound s
   unfolding readOf
-  accepting e f m = promised (e ∙ ap₂ readingOf m (f ∙ ap (λ (k : ℕ). cond (eqb k 0) (stateIn file) founding) m))
+  accepting f m = promised (ap₂ readingOf m (f ∙ ap (λ (k : ℕ). cond (eqb k 0) (stateIn file) founding) m))
 
   -- the checks behind those of the header, and behind those of the tables
   abbrev ofState : List Check
@@ -57,29 +57,20 @@ module _ (file : List ℕ) where
 header-refusal-requires : tie.Need-header-refusal-requires
 header-refusal-requires c κs = tt
 
-founding-requires : tie.Need-founding-requires
-founding-requires c κs = tt
-
-reading-of-requires : tie.Need-reading-of-requires
-reading-of-requires c κs = tt
+refused-requires : tie.Need-refused-requires
+refused-requires c κs = tt
 
 tables-fit-requires : tie.Need-tables-fit-requires
 tables-fit-requires c κs = tt
 
-founding-requires-2 : tie.Need-founding-requires-2
-founding-requires-2 c κs = tt
-
-reading-of-requires-2 : tie.Need-reading-of-requires-2
-reading-of-requires-2 c κs = tt
+refused-requires-2 : tie.Need-refused-requires-2
+refused-requires-2 c κs = tt
 
 tables-ascend-requires : tie.Need-tables-ascend-requires
 tables-ascend-requires c κs = tt
 
-founding-requires-3 : tie.Need-founding-requires-3
-founding-requires-3 c κs = tt
-
-reading-of-requires-3 : tie.Need-reading-of-requires-3
-reading-of-requires-3 c κs = tt
+refused-requires-3 : tie.Need-refused-requires-3
+refused-requires-3 c κs = tt
 
 state-in-requires : tie.Need-state-in-requires
 state-in-requires c κs = tt
@@ -87,14 +78,8 @@ state-in-requires c κs = tt
 state-refusal-requires : tie.Need-state-refusal-requires
 state-refusal-requires c κs = c .state-in .ensures
 
-founding-requires-4 : tie.Need-founding-requires-4
-founding-requires-4 c κs = tt
-
-reading-of-requires-4 : tie.Need-reading-of-requires-4
-reading-of-requires-4 c κs = tt
-
-reading-of-requires-5 : tie.Need-reading-of-requires-5
-reading-of-requires-5 c κs = tt
+refused-requires-4 : tie.Need-refused-requires-4
+refused-requires-4 c κs = tt
 
 -- what each test that is passed says of the refusal
 headed : (c : tie.Else1) → refusalOf (c .before .before .before .args .file .now) ≡ firstMet (later (c .before .before .before .args .file .now))
@@ -108,48 +93,43 @@ ascended c = ranged (c .before .before) ∙ passed _ _ (ap not (sym (c .before .
 
 returns : tie.Need-returns
 returns c =
-    refusing _ (c .reading-of .ensures) (c .before .founding .ensures) (in-header _ (c .before .before .before .header-refusal .ensures) (c .before .before .if1 .taken)) (ne-eqb _ _ (c .before .before .if1 .taken))
+    refusing _ (c .refused .ensures) (in-header _ (c .before .before .header-refusal .ensures) (c .before .if1 .taken)) (ne-eqb _ _ (c .before .if1 .taken))
 
 returns-2 : tie.Need-returns-2
 returns-2 c =
-    let refused = headed (c .before .before .before .before) ∙ met _ _ (ap not (sym (c .before .before .before .tables-fit .ensures)) ∙ c .before .before .if2 .taken) in
-    refusing _ (c .reading-of2 .ensures) (c .before .founding2 .ensures) (sym refused) refl
+    let number = headed (c .before .before .before) ∙ met _ _ (ap not (sym (c .before .before .tables-fit .ensures)) ∙ c .before .if2 .taken) in
+    refusing _ (c .refused2 .ensures) (sym number) refl
 
 returns-3 : tie.Need-returns-3
 returns-3 c =
-    let refused = ranged (c .before .before .before .before) ∙ met _ _ (ap not (sym (c .before .before .before .tables-ascend .ensures)) ∙ c .before .before .if3 .taken) in
-    refusing _ (c .reading-of3 .ensures) (c .before .founding3 .ensures) (sym refused) refl
+    let number = ranged (c .before .before .before) ∙ met _ _ (ap not (sym (c .before .before .tables-ascend .ensures)) ∙ c .before .if3 .taken) in
+    refusing _ (c .refused3 .ensures) (sym number) refl
 
 returns-4 : tie.Need-returns-4
 returns-4 c =
-    let refused = behind-tables _ (c .before .before .before .before .state-in .ensures) (c .before .before .before .state-refusal .ensures) (ascended (c .before .before .before .before .before)) in
-    refusing _ (c .reading-of4 .ensures) (c .before .founding4 .ensures) refused (ne-eqb _ _ (c .before .before .if4 .taken))
+    let number = behind-tables _ (c .before .before .before .state-in .ensures) (c .before .before .state-refusal .ensures) (ascended (c .before .before .before .before)) in
+    refusing _ (c .refused4 .ensures) number (ne-eqb _ _ (c .before .if4 .taken))
 
 returns-5 : tie.Need-returns-5
 returns-5 c =
-    let accepted = behind-tables _ (c .before .before .before .state-in .ensures) (c .before .before .state-refusal .ensures) (ascended (c .before .before .before .before)) in
-    accepting _ (c .reading-of5 .ensures) (c .before .before .before .state-in .ensures) (sym (c .before .if4 .left) ∙ accepted)
+    let number = behind-tables _ (c .before .before .state-in .ensures) (c .before .state-refusal .ensures) (ascended (c .before .before .before)) in
+    accepting _ (c .before .before .state-in .ensures) (sym (c .if4 .left) ∙ number)
 
 pub read-spec : {M : Type 1} → statement M
 read-spec =
     tie.close
     (tie.spec
     header-refusal-requires
-    founding-requires
-    reading-of-requires
+    refused-requires
     returns
     tables-fit-requires
-    founding-requires-2
-    reading-of-requires-2
+    refused-requires-2
     returns-2
     tables-ascend-requires
-    founding-requires-3
-    reading-of-requires-3
+    refused-requires-3
     returns-3
     state-in-requires
     state-refusal-requires
-    founding-requires-4
-    reading-of-requires-4
+    refused-requires-4
     returns-4
-    reading-of-requires-5
     returns-5)

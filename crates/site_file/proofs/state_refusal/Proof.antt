@@ -14,7 +14,7 @@ use Rattle.label_tables.specs.Labels.{labelsListed}
 use Rattle.site_format.specs.Format.{labels, part}
 use Rattle.site_file.specs.Reading.{stateIn, noOwner, namesUnlisted, definedTwice}
 use Rattle.site_file.proofs.Held.{Derived, derived, shaped}
-use Rattle.site_file.proofs.Refused.{formed, by-record, by-labels}
+use Rattle.site_file.proofs.Formed.{formed, by-record, by-labels}
 use Rattle.site_file.proofs.state_refusal.Statement.{statement}
 use Rattle.site_file.proofs.state_refusal.Tie as tie
 
