@@ -12,7 +12,7 @@ use lib.Seq.{take-length}
 use Rattle.state.specs.Cells.{width, pair, put}
 use Rattle.state.specs.Below.{someBelow}
 use Rattle.state.proofs.Bools.{and-both, same-test, holds, fails}
-use Rattle.state.proofs.Below.{each-at, each-by}
+use Rattle.state.proofs.Below.{each-at, each-by, some-none, some-more}
 use Rattle.state.proofs.Ascending.{Ascends, ascends-by, at-most}
 use Rattle.state.proofs.Laws.{put-same, put-other}
 use Rattle.pair_tables.specs.Pairs.{pairCount, firstOf, secondOf, pairFits, pairsFit, pairAscends, pairsAscend, isPairOf, hasPair, withFirst, atPlace, tableOf}
@@ -24,7 +24,7 @@ pub with-pairs-length : Claims.WithPairsLength
 with-pairs-length t cells = with-length (pairCount t) t cells
 
 pub with-pairs-reads : Claims.WithPairsReads
-unfolding hasPair someBelow withFirst
+unfolding hasPair withFirst
 with-pairs-reads limit t cells fit long i j = first (pairCount t) (omega arith)
   where
     step : (n : ℕ) (b c d : Bool) → n < pairCount t → pair (withFirst n t cells) i j ≡ (b || c) → isPairOf t i j n ≡ d
@@ -38,8 +38,8 @@ with-pairs-reads limit t cells fit long i j = first (pairCount t) (omega arith)
         rw (or-false c) (put-other (withFirst n t cells) (firstOf t n) (secondOf t n) i j true (λ x y. fails q (is-pair-by t i j n (sym x) (sym y))) ∙ e)
 
     first : (n : ℕ) → n ≤ pairCount t → pair (withFirst n t cells) i j ≡ (pair cells i j || someBelow n (isPairOf t i j))
-    first zero h = sym (or-false (pair cells i j))
-    first (suc n) h = step n (pair cells i j) (someBelow n (isPairOf t i j)) (isPairOf t i j n) h (first n (omega arith)) refl
+    first zero h = rw (some-none (isPairOf t i j)) (sym (or-false (pair cells i j)))
+    first (suc n) h = rw (some-more (isPairOf t i j) n) (step n (pair cells i j) (someBelow n (isPairOf t i j)) (isPairOf t i j n) h (first n (omega arith)) refl)
 
 -- ---- the table of a relation
 -- a pair is at its place

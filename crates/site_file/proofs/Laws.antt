@@ -1,19 +1,19 @@
 -- The claims of specs/Claims.antt, each proved under its name.
 -- Assumes nothing.
 use Prim.Native.Nat.{ℕ, _+_, _*_, _-_, _≤_, _<_, min}
-use mathlib.Core.Path.{_≡_, refl, sym, ap, subst, _∙_}
+use mathlib.Core.Path.{_≡_, sym, ap, subst, _∙_}
 use mathlib.Core.Logic.{_⊎_, inl, inr}
 use mathlib.Core.Bool.{Bool, false, cond}
 use mathlib.Core.List.{List}
 use native.Mathlib.Omega.{arith}
 use native.Mathlib.Decide.{ℕ-discrete}
 use borrow.Author.Tests.{ne-eqb}
-use lib.Dec.{T, eqb, ltb, eqb→eq, ltb→lt, lt→ltb}
+use lib.Dec.{T}
 use lib.ListN.{length, getD, drop, length-take, length-drop}
 use lib.Seq.{getD-take, getD-drop}
 use Rattle.state.specs.Site.{founding}
 use Rattle.state.specs.declared.State.{State}
-use Rattle.state.proofs.Bools.{and-both, and-left, and-right, is-true, is-false, fails, test}
+use Rattle.state.proofs.Bools.{fails, test}
 use Rattle.soundness.specs.Sound.{Sound}
 use Rattle.soundness.proofs.Laws.{founding-sound}
 use Rattle.label_tables.specs.Labels.{labelCount, labelArea, labelLength, textByte, labelIndex}
@@ -23,10 +23,11 @@ use Rattle.site_file.specs.Reading.{stateIn, refusalOf, readOf}
 use Rattle.site_file.specs.Encode.{AreBytes, encode}
 use Rattle.site_file.specs.Finder.{hasLabel, textAt, textLength, labelText}
 use Rattle.site_file.specs.Claims
-use Rattle.site_file.specs.Claims.{Accepted, Encoding, AtFront}
+use Rattle.site_file.specs.Claims.{Accepted, Encoding}
 use Rattle.site_file.proofs.Checked.{Checked, checked, accepted, state-read}
 use Rattle.site_file.proofs.Accept
 use Rattle.site_file.proofs.Encoded
+use Rattle.site_file.proofs.Texts.{entry, found, front, no-refusal, an-entry, labelled}
 
 -- ---- the state beside the number is sound
 refused-state : (file : List ℕ) → (refusalOf file ≡ 0 → ⊥) → readOf file .state ≡ founding
@@ -73,29 +74,6 @@ one-meaning file s t l m bytes e d =
     (sym (a .state) ∙ b .state, sym (a .block) ∙ b .block)
 
 -- ---- the label finder
-module _ (file : List ℕ) (a : ℕ) where
-  -- the entry that is looked up
-  abbrev entry : ℕ
-  entry = labelIndex (part file labels) a
-
-  found : T (hasLabel file a) → (textAt file a ≡ offsetIn file labels + (entry * 32 + 2)) × (textLength file a ≡ labelLength (part file labels) entry)
-  unfolding textAt textLength
-  found t = rw (is-true (hasLabel file a) t) (refl, refl)
-
-  front : (T (hasLabel file a) → ⊥) → AtFront file a
-  unfolding textAt textLength
-  front f = record { starts = rw (is-false (hasLabel file a) f) refl; long = rw (is-false (hasLabel file a) f) refl }
-
-  -- what it says that there is a label
-  no-refusal : T (hasLabel file a) → refusalOf file ≡ 0
-  no-refusal t = eqb→eq (refusalOf file) 0 (and-left (eqb (refusalOf file) 0) (ltb entry (labelCount (part file labels))) t)
-
-  an-entry : T (hasLabel file a) → entry < labelCount (part file labels)
-  an-entry t = ltb→lt entry (labelCount (part file labels)) (and-right (eqb (refusalOf file) 0) (ltb entry (labelCount (part file labels))) t)
-
-  labelled : refusalOf file ≡ 0 → entry < labelCount (part file labels) → T (hasLabel file a)
-  labelled e h = and-both (eqb (refusalOf file) 0) (ltb entry (labelCount (part file labels))) (rw e tt) (lt→ltb entry (labelCount (part file labels)) h)
-
 pub no-label-refused : Claims.NoLabelRefused
 no-label-refused file a ne = front file a (λ t. ne (no-refusal file a t))
 

@@ -4,6 +4,7 @@
 --     each-stop, each-done                a number that does not, and none left
 --     count-none, count-more              before the first turn, and one turn more
 --     count-one, one-counted              a count of one is exactly one number
+--     some-none, some-more                no number, and one number more
 --     some-at, some-by                    some number meets the test
 --     first-is, first-none, first-met     the number that meets it while none before does, none at all, and that it does meet it
 -- Assumes nothing.
@@ -137,6 +138,14 @@ module _ (f : ℕ → Bool) where
     pub place : ℕ
     pub below : place < n
     pub met : T (f place)
+
+  pub some-none : someBelow 0 f ≡ false
+  unfolding someBelow
+  some-none = refl
+
+  pub some-more : (n : ℕ) → someBelow (suc n) f ≡ (someBelow n f || f n)
+  unfolding someBelow
+  some-more n = refl
 
   pub some-by : (n k : ℕ) → k < n → T (f k) → T (someBelow n f)
   unfolding someBelow

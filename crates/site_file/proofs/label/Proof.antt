@@ -2,17 +2,19 @@
 -- Assumes nothing.
 use Prim.Native.Nat.{ℕ, _+_, _*_, min}
 use mathlib.Core.Path.{_≡_, sym, ap, ap₂, _∙_}
-use mathlib.Core.Bool.{Bool, true, false, _&&_, not, cond}
+use mathlib.Core.Bool.{Bool, true, false, _&&_, not}
 use mathlib.Core.List.{List, []}
 use native.Mathlib.Omega.{arith}
 use borrow.Author.Tests.{lt-ltb, le-ltb, not-true, not-false}
 use lib.Dec.{eqb, ltb}
 use lib.ListN.{length, take, drop}
-use Rattle.label_tables.specs.Labels.{labelSize, labelCount, labelLength, labelIndex}
+use Rattle.label_tables.specs.Labels.{labelCount, labelLength, labelIndex}
 use Rattle.site_format.specs.Format.{labels, offsetIn, part, behind}
 use Rattle.site_file.specs.Reading.{refusalOf}
 use Rattle.site_file.specs.Finder.{hasLabel, textAt, textLength, labelText}
+use Rattle.state.proofs.Bools.{holds, fails}
 use Rattle.site_file.proofs.Laws.{label-inside}
+use Rattle.site_file.proofs.Texts.{found, front}
 use Rattle.site_file.proofs.label.Statement.{statement}
 use Rattle.site_file.proofs.label.Tie as tie
 
@@ -26,27 +28,14 @@ module _ (file : List ℕ) (a : ℕ) where
   entry {told} {table} v e n t i b =
       ap₂ _&&_ (sym e ∙ not-false told n) (ap (λ (l : List ℕ). ltb (labelIndex l a) (labelCount l)) (sym t) ∙ sym (ap (λ (m : ℕ). ltb m (labelCount table)) i) ∙ b)
 
-  -- the text's place and length, without a label and with one
-  none-at : hasLabel file a ≡ false → 0 ≡ textAt file a
-  unfolding textAt
-  none-at e = sym (ap (λ (b : Bool). cond b (offsetIn file labels + (labelIndex (part file labels) a * labelSize + 2)) 0) e)
-
-  none-long : hasLabel file a ≡ false → 0 ≡ textLength file a
-  unfolding textLength
-  none-long e = sym (ap (λ (b : Bool). cond b (labelLength (part file labels) (labelIndex (part file labels) a)) 0) e)
-
+  -- with a label, by what was read
   entry-at : {table : List ℕ} {k offset : ℕ} → hasLabel file a ≡ true → table ≡ part file labels → k ≡ labelIndex table a → offset ≡ offsetIn file labels
       → offset + (k * 32 + 2) ≡ textAt file a
-  unfolding textAt
-  entry-at e t i o =
-      ap₂ (λ (m n : ℕ). m + (n * 32 + 2)) o (i ∙ ap (λ (l : List ℕ). labelIndex l a) t)
-      ∙ sym (ap (λ (b : Bool). cond b (offsetIn file labels + (labelIndex (part file labels) a * labelSize + 2)) 0) e)
+  entry-at e t i o = ap₂ (λ (m n : ℕ). m + (n * 32 + 2)) o (i ∙ ap (λ (l : List ℕ). labelIndex l a) t) ∙ sym (found file a (holds e) .0)
 
   entry-long : {table : List ℕ} {k : ℕ} → hasLabel file a ≡ true → table ≡ part file labels → k ≡ labelIndex table a → labelLength table k ≡ textLength file a
-  unfolding textLength
   entry-long {table} e t i =
-      ap (labelLength table) i ∙ ap (λ (l : List ℕ). labelLength l (labelIndex l a)) t
-      ∙ sym (ap (λ (b : Bool). cond b (labelLength (part file labels) (labelIndex (part file labels) a)) 0) e)
+      ap (labelLength table) i ∙ ap (λ (l : List ℕ). labelLength l (labelIndex l a)) t ∙ sym (found file a (holds e) .1)
 
   -- both promises, from the part that was taken
   placed : (front : ℕ × ℕ) (at len : ℕ) {bytes : List ℕ} {place : ℕ × ℕ} → at ≡ textAt file a → len ≡ textLength file a → bytes ≡ take len (drop at file)
@@ -56,9 +45,11 @@ module _ (file : List ℕ) (a : ℕ) where
       (b ∙ ap₂ (λ (n m : ℕ). take n (drop m file)) f e, p ∙ ap (behind front) inside)
 
   -- the part at the front
-  at-front : (front : ℕ × ℕ) {bytes : List ℕ} {place : ℕ × ℕ} → hasLabel file a ≡ false → bytes ≡ [] → place ≡ behind front 0
-      → (bytes ≡ labelText file a) × (place ≡ behind front (textAt file a))
-  at-front front n b p = (b ∙ ap (λ (k : ℕ). take k (drop (textAt file a) file)) (none-long n), p ∙ ap (behind front) (none-at n))
+  at-front : (at : ℕ × ℕ) {bytes : List ℕ} {place : ℕ × ℕ} → hasLabel file a ≡ false → bytes ≡ [] → place ≡ behind at 0
+      → (bytes ≡ labelText file a) × (place ≡ behind at (textAt file a))
+  at-front at n b p =
+      let f = front file a (fails n) in
+      (b ∙ ap (λ (k : ℕ). take k (drop (textAt file a) file)) (sym (f .long)), p ∙ ap (behind at) (sym (f .starts)))
 
 is-accepted-requires : tie.Need-is-accepted-requires
 is-accepted-requires c κs = tt
