@@ -3,12 +3,11 @@
 -- Assumes nothing.
 use Prim.Native.Nat.{ℕ, _≤_}
 use mathlib.Core.Path.{_≡_, refl, ap, _∙_}
-use mathlib.Core.Bool.{Bool, true, false, _||_, not, cond}
+use mathlib.Core.Bool.{Bool, true, false, _||_, not}
 use mathlib.Core.List.{List, [], _∷_}
 use borrow.Author.Tests.{le-ltb, eq-eqb}
 use lib.Dec.{T, eqb, ltb, eqb→eq, nltb→le}
 use lib.ListN.{length}
-use Rattle.state.specs.Site.{founding}
 use Rattle.state.proofs.Bools.{and-both, and-left, and-right, is-true, fails, so-not, not-not}
 use Rattle.state.proofs.Checks.{passed, none-met, Passed, all-passed}
 use Rattle.soundness.specs.Tests.{isConsistent, isValid}
@@ -113,4 +112,4 @@ accepted file k =
 -- the state of a file that is accepted
 pub state-read : (file : List ℕ) → refusalOf file ≡ 0 → readOf file .state ≡ stateIn file
 unfolding readOf
-state-read file e = ap (λ (n : ℕ). cond (eqb n 0) (stateIn file) founding) e
+state-read file e = rw e refl

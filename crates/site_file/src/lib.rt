@@ -105,10 +105,12 @@ pub fn read(file: &[u8]) -> Reading
     if header != 0 {
         return refused(header);
     }
-    if !tables_fit(file) {
+    let in_range = tables_fit(file);
+    let ascending = tables_ascend(file);
+    if !in_range {
         return refused(26);
     }
-    if !tables_ascend(file) {
+    if !ascending {
         return refused(27);
     }
     let s = state_in(file);

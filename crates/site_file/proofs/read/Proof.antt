@@ -6,14 +6,14 @@ use mathlib.Core.Bool.{Bool, false, not, cond}
 use mathlib.Core.List.{List, _∷_, _++_}
 use borrow.Author.Tests.{eq-eqb, ne-eqb}
 use lib.Dec.{eqb}
-use Rattle.state.specs.Checks.{Check, _when_, firstMet}
+use Rattle.state.specs.Checks.{Check, firstMet}
 use Rattle.state.specs.Site.{founding}
 use Rattle.state.specs.declared.State.{State}
 use Rattle.state.proofs.Checks.{met, passed, first-of-two}
 use Rattle.soundness.specs.Sound.{Sound}
-use Rattle.site_format.specs.Format.{tables, eachTable, labels, part, ascending}
+use Rattle.site_format.specs.Format.{labels, part}
 use Rattle.site_format.specs.Header.{headerChecks}
-use Rattle.site_file.specs.Reading.{stateIn, tableChecks, stateChecks, refusalOf, readingOf, readOf}
+use Rattle.site_file.specs.Reading.{outOfOrder, stateIn, tableChecks, stateChecks, refusalOf, readingOf, readOf}
 use Rattle.site_file.specs.declared.Reading.{Reading}
 use Rattle.site_file.proofs.Laws.{read-sound}
 use Rattle.site_file.proofs.read.Statement.{statement}
@@ -85,11 +85,11 @@ refused-requires-4 c κs = tt
 headed : (c : tie.Else1) → refusalOf (c .before .before .before .args .file .now) ≡ firstMet (later (c .before .before .before .args .file .now))
 headed c = behind-header _ (c .before .header-refusal .ensures) (c .if1 .left)
 
-ranged : (c : tie.Else2) → refusalOf (c .before .before .before .before .before .args .file .now) ≡ firstMet ((27 when not (eachTable tables (λ x. ascending x (part (c .before .before .before .before .before .args .file .now) x)))) ∷ ofState (c .before .before .before .before .before .args .file .now))
-ranged c = headed (c .before .before) ∙ passed _ _ (ap not (sym (c .before .tables-fit .ensures)) ∙ c .if2 .left)
+ranged : (c : tie.Else2) → refusalOf (c .before .before .before .before .before .before .args .file .now) ≡ firstMet (outOfOrder (c .before .before .before .before .before .before .args .file .now) ∷ ofState (c .before .before .before .before .before .before .args .file .now))
+ranged c = headed (c .before .before .before) ∙ passed _ _ (ap not (sym (c .before .before .tables-fit .ensures)) ∙ c .if2 .left)
 
 ascended : (c : tie.Else3) → refusalOf (c .before .before .before .before .before .before .before .args .file .now) ≡ firstMet (ofState (c .before .before .before .before .before .before .before .args .file .now))
-ascended c = ranged (c .before .before) ∙ passed _ _ (ap not (sym (c .before .tables-ascend .ensures)) ∙ c .if3 .left)
+ascended c = ranged (c .before) ∙ passed _ _ (ap not (sym (c .before .before .tables-ascend .ensures)) ∙ c .if3 .left)
 
 returns : tie.Need-returns
 returns c =
@@ -97,12 +97,12 @@ returns c =
 
 returns-2 : tie.Need-returns-2
 returns-2 c =
-    let number = headed (c .before .before .before) ∙ met _ _ (ap not (sym (c .before .before .tables-fit .ensures)) ∙ c .before .if2 .taken) in
+    let number = headed (c .before .before .before .before) ∙ met _ _ (ap not (sym (c .before .before .before .tables-fit .ensures)) ∙ c .before .if2 .taken) in
     refusing _ (c .refused2 .ensures) (sym number) refl
 
 returns-3 : tie.Need-returns-3
 returns-3 c =
-    let number = ranged (c .before .before .before) ∙ met _ _ (ap not (sym (c .before .before .tables-ascend .ensures)) ∙ c .before .if3 .taken) in
+    let number = ranged (c .before .before) ∙ met _ _ (ap not (sym (c .before .before .before .tables-ascend .ensures)) ∙ c .before .if3 .taken) in
     refusing _ (c .refused3 .ensures) (sym number) refl
 
 returns-4 : tie.Need-returns-4
@@ -123,9 +123,9 @@ read-spec =
     refused-requires
     returns
     tables-fit-requires
+    tables-ascend-requires
     refused-requires-2
     returns-2
-    tables-ascend-requires
     refused-requires-3
     returns-3
     state-in-requires
