@@ -1,10 +1,11 @@
 -- What is claimed of the table of labels. Each claim is a type, which proofs/Laws.antt inhabits under the claim's name.
-use Prim.Native.Nat.{ℕ, _≤_, _<_}
+use Prim.Native.Nat.{ℕ, _*_, _≤_, _<_}
 use mathlib.Core.Path.{_≡_}
 use mathlib.Core.List.{List}
 use lib.Dec.{T}
+use lib.ListN.{length, getD}
 use Rattle.state.specs.Site.{area, limit}
-use Rattle.label_tables.specs.Labels.{labelCount, labelArea, labelLength, labelsFit, labelsAscend, labelIndex}
+use Rattle.label_tables.specs.Labels.{labelSize, labelCount, labelArea, labelLength, textByte, labelsFit, labelsAscend, labelIndex}
 
 -- "Counts are at most .. 32": so many areas can ascend in their range
 abbrev pub LabelCountFits : Type 0
@@ -24,6 +25,14 @@ LabelThere = (t : List ℕ) (a : ℕ) → labelIndex t a < labelCount t → labe
 -- an entry's area is the number of an area
 abbrev pub LabelAreaFits : Type 0
 LabelAreaFits = (t : List ℕ) (k : ℕ) → T (labelsFit t) → k < labelCount t → labelArea t k < limit area
+
+-- "the text (bytes 32 to 126)"
+abbrev pub LabelTextFits : Type 0
+LabelTextFits = (t : List ℕ) (k i : ℕ) → T (labelsFit t) → k < labelCount t → i < labelLength t k → (32 ≤ textByte t k i) × (textByte t k i ≤ 126)
+
+-- what is in range is a byte
+abbrev pub LabelsAreBytes : Type 0
+LabelsAreBytes = (t : List ℕ) (i : ℕ) → length t ≡ labelCount t * labelSize → T (labelsFit t) → getD t i 0 < 256
 
 -- "length 1 to 30"
 abbrev pub LabelLengthFits : Type 0

@@ -19,32 +19,33 @@ labelSize = 32
 abbrev pub textSize : ℕ
 textSize = 30
 
--- how many entries the table has, and byte i of entry k
+-- how many entries the table has
 abbrev pub labelCount : List ℕ → ℕ
 labelCount t = length t / labelSize
 
-abbrev pub labelByte : List ℕ → (k i : ℕ) → ℕ
-labelByte t k i = getD t (k * labelSize + i) 0
-
--- "area, length 1 to 30, the text": the first byte, the second, and the others
+-- "area, length 1 to 30, the text": the first byte of entry k, the second, and byte i of the others
 abbrev pub labelArea : List ℕ → ℕ → ℕ
-labelArea t k = labelByte t k 0
+labelArea t k = getD t (k * labelSize) 0
 
 abbrev pub labelLength : List ℕ → ℕ → ℕ
-labelLength t k = labelByte t k 1
+labelLength t k = getD t (k * labelSize + 1) 0
 
 abbrev pub textByte : List ℕ → (k i : ℕ) → ℕ
-textByte t k i = labelByte t k (2 + i)
+textByte t k i = getD t (k * labelSize + 2 + i) 0
 
 -- ---- 26: "a number, length, text byte or filler byte outside its range"
 -- "the text (bytes 32 to 126), then zeros"
-abbrev pub textFits : (size : ℕ) → (i byte : ℕ) → Bool
-textFits size i byte = cond (ltb i size) (leb 32 byte && leb byte 126) (eqb byte 0)
+abbrev pub byteFits : (size : ℕ) → (i byte : ℕ) → Bool
+byteFits size i byte = cond (ltb i size) (leb 32 byte && leb byte 126) (eqb byte 0)
+
+-- the bytes from a place on are a text of this size and its filler
+abbrev pub textFits : List ℕ → (from size : ℕ) → ℕ → Bool
+textFits t from size i = byteFits size i (getD t (from + i) 0)
 
 abbrev pub labelFits : List ℕ → ℕ → Bool
 labelFits t k =
     ltb (labelArea t k) (limit area) && leb 1 (labelLength t k) && leb (labelLength t k) textSize
-    && eachBelow textSize (λ i. textFits (labelLength t k) i (textByte t k i))
+    && eachBelow textSize (textFits t (k * labelSize + 2) (labelLength t k))
 
 unfoldable pub labelsFit : List ℕ → Bool
 labelsFit t = eachBelow (labelCount t) (labelFits t)
@@ -57,8 +58,11 @@ unfoldable pub labelsAscend : List ℕ → Bool
 labelsAscend t = eachBelow (labelCount t - 1) (labelAscends t)
 
 -- ---- 28: "an unlisted area .. named"
+abbrev pub labelListed : (areas : Members) → List ℕ → ℕ → Bool
+labelListed areas t k = member areas (labelArea t k)
+
 unfoldable pub labelsListed : (areas : Members) → List ℕ → Bool
-labelsListed areas t = eachBelow (labelCount t) (λ k. member areas (labelArea t k))
+labelsListed areas t = eachBelow (labelCount t) (labelListed areas t)
 
 -- ---- the entry of area a: the first with that area, or the count if there is none
 unfoldable pub labelIndex : List ℕ → (a : ℕ) → ℕ

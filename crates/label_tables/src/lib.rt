@@ -1,14 +1,14 @@
 // The table of labels, as a slice of its own bytes: whether it is in range, ascending and of listed areas, and which entry is an area's.
 ghost use mathlib.Core.Path.{_≡_};
 ghost use Prim.Native.Nat.{_+_, _*_, _≤_};
-ghost use lib.ListN.{length, getD};
+ghost use lib.ListN.{length};
 ghost use Rattle.state.specs.Below.{eachBelow};
 ghost use Rattle.label_tables.specs.Labels.{textFits, labelFits, labelsFit, labelsAscend, labelsListed, labelIndex};
 
 // Are the bytes of the text 32 to 126, and those after it 0?
 fn text_fits(table: &[u8], from: usize, size: u8) -> bool
     requires { ⌜ from + 30 ≤ length (now table) ⌝ }
-    ensures { λ r. ⌜ r ≡ eachBelow 30 (λ i. textFits size i (getD (now (table .entry)) (from + i) 0)) ⌝ }
+    ensures { λ r. ⌜ r ≡ eachBelow 30 (textFits (now (table .entry)) from size) ⌝ }
 {
     let mut fits = true;
     for i in 0..30u8 {
@@ -50,12 +50,12 @@ pub fn all_ascend(table: &[u8]) -> bool
 {
     let count = table.len() / 32;
     let mut k: usize = 0;
-    let mut fits = true;
+    let mut ascends = true;
     while k + 1 < count {
-        fits = fits & (table[k * 32] < table[k * 32 + 32]);
+        ascends = ascends & (table[k * 32] < table[k * 32 + 32]);
         k = k + 1;
     }
-    fits
+    ascends
 }
 
 // Is each entry's area listed?

@@ -10,7 +10,7 @@ use lib.Dec.{T, eqb}
 use borrow.Author.Tests.{eq-eqb, ne-eqb}
 use Rattle.state.specs.Site.{Kind, user, area, object, listed, withListed, Relation, owner, definition, structure, import, export, related, withPair, owns}
 use Rattle.state.specs.declared.State.{State}
-use Rattle.state.proofs.Bools.{fails}
+use Rattle.state.proofs.Bools.{fails, so}
 use Rattle.state.proofs.Laws.{list-keeps-pairs, related-else, related-other-relation}
 use Rattle.soundness.specs.Sound.{Sound}
 use Rattle.instructions.specs.Instructions.{Bytes, Target, theArea, pairOf, Picked, unknown, instruction, instructionOf}
@@ -24,7 +24,7 @@ use Rattle.instructions.specs.declared.Instruction.{Instruction}
 use Rattle.instructions.specs.declared.Instruction.the-variants.{ListArea, UnlistArea, AddOwner, RemoveOwner, AddStructure, RemoveStructure, Define, RemoveDefinition, AddImport, RemoveImport, AddExport, RemoveExport}
 use Rattle.state.proofs.Checks.{numbered, Passed, all-passed}
 use Rattle.machine.proofs.Parts.{different}
-use Rattle.machine.proofs.Kept.{so, Accepted, accepted-sound}
+use Rattle.machine.proofs.Kept.{Accepted, accepted-sound}
 
 -- ---- one step
 -- The state after a step is the one before, or the successor of an instruction that is accepted.

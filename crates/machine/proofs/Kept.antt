@@ -12,8 +12,8 @@ use borrow.Author.Tests.{eqb-true, eq-eqb, ltb-true}
 use Rattle.state.specs.Site.{Kind, user, area, object, limit, listed, withListed, Relation, owner, definition, structure, import, export, firstKind, related, withPair, owns, defines, Shaped}
 use Rattle.state.specs.Walk.{someMember, somePair, hasFirst, hasSecond}
 use Rattle.state.specs.declared.State.{State}
-use Rattle.state.proofs.Bools.{is-true, holds, fails, and-both, and-left, and-right, not-so, so-not}
-use Rattle.state.proofs.Laws.{listed-same, listed-other, listed-else, list-shaped, unlist-adds-none, related-same, related-other, related-else, relate-shaped, add-keeps-pairs, remove-adds-none, some-member, some-pair, has-first, has-second}
+use Rattle.state.proofs.Bools.{is-true, holds, fails, and-both, and-left, and-right, not-so, so-not, so, neither}
+use Rattle.state.proofs.Laws.{listed-same, listed-other, listed-else, list-shaped, unlist-adds-none, related-same, related-other, related-else, relate-shaped, add-keeps-pairs, remove-adds-none, some-member, some-pair, has-first, has-second, listed-inside}
 use Rattle.access.specs.Lending.{lending}
 use Rattle.access.specs.Answer.{access}
 use Rattle.access.proofs.Laws.{access-is-defined}
@@ -26,19 +26,11 @@ use Rattle.instructions.specs.Successor.{withoutOwner, successor}
 use Rattle.machine.specs.Refusals.{missing, entitled, present, absent, soleOwner, onlyArea, isLast, otherOwner, inUse, isEntry, bearsAccess}
 use Rattle.instructions.specs.declared.Instruction.{Instruction}
 use Rattle.instructions.specs.declared.Instruction.the-variants.{ListArea, UnlistArea, AddOwner, RemoveOwner, AddStructure, RemoveStructure, Define, RemoveDefinition, AddImport, RemoveImport, AddExport, RemoveExport}
-use Rattle.machine.proofs.Parts.{different, different-kind, listed-inside, removed, still, consistent-add, consistent-remove, consistent-list, Unnamed, consistent-unlist, consistent-without, once-same, acceptable-pair, acceptable-more, unlisted, users-without, areas-without, valid-same, valid-add}
+use Rattle.machine.proofs.Parts.{different, different-kind, removed, still, consistent-add, consistent-remove, consistent-list, Unnamed, consistent-unlist, consistent-without, once-same, acceptable-pair, acceptable-more, unlisted, users-without, areas-without, valid-same, valid-add}
 
 -- ---- truth values of a check that is not met
-pub so : (p : Bool) → not p ≡ false → T p
-so true e = tt
-so false e = absurd (fails e tt)
-
 both-so : (p q : Bool) → not (p && q) ≡ false → T p × T q
 both-so p q e = let t = so (p && q) e in (and-left p q t, and-right p q t)
-
-neither : (p q : Bool) → p || q ≡ false → (p ≡ false) × (q ≡ false)
-neither true q e = absurd (fails e tt)
-neither false q e = (refl, e)
 
 none-of-six : (p q r t v w : Bool) → p || q || r || t || v || w ≡ false
     → (p ≡ false) × (q ≡ false) × (r ≡ false) × (t ≡ false) × (v ≡ false) × (w ≡ false)

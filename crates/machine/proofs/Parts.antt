@@ -12,7 +12,7 @@ use Rattle.state.specs.Site.{Kind, user, area, object, limit, kindNumber, liste
 use Rattle.state.specs.Walk.{hasFirst}
 use Rattle.state.specs.declared.State.{State}
 use Rattle.state.proofs.Bools.{and-both, and-right, holds, fails}
-use Rattle.state.proofs.Laws.{listed-other, listed-else, list-keeps-listed, unlist-adds-none, list-keeps-pairs, listed-same, listed-outside, related-same, related-other-relation, relate-shaped, related-else, related-outside, relate-keeps-lists, remove-adds-none, has-first}
+use Rattle.state.proofs.Laws.{listed-other, listed-else, list-keeps-listed, unlist-adds-none, list-keeps-pairs, listed-same, related-same, related-other-relation, relate-shaped, related-else, related-outside, relate-keeps-lists, remove-adds-none, has-first, listed-inside}
 use Rattle.access.specs.Lending.{Lending, lending}
 use Rattle.access.specs.Answer.{access}
 use Rattle.access.proofs.Laws.{more-keeps-access, added-is-included}
@@ -27,14 +27,6 @@ different r t n e = subst (λ (b : Bool). T (not b)) (eq-eqb (relationNumber r) 
 -- the same of kinds
 pub different-kind : (k l : Kind) → T (not (eqb (kindNumber k) (kindNumber l))) → k ≡ l → ⊥
 different-kind k l n e = subst (λ (b : Bool). T (not b)) (eq-eqb (kindNumber k) (kindNumber l) (ap kindNumber e)) n
-
--- what is listed is within the limit
-pub listed-inside : (s : State) (k : Kind) (i : ℕ) → Shaped s → T (listed s k i) → i < limit k
-listed-inside s k i shaped t = go (decLt i (limit k))
-  where
-    go : Dec (i < limit k) → i < limit k
-    go (yes h) = h
-    go (no h) = absurd (fails (listed-outside s k i shaped (omega arith)) t)
 
 -- a pair that was removed is not there
 pub removed : (s : State) (r : Relation) (i j : ℕ) → Shaped s → T (related (withPair s r i j false) r i j) → ⊥

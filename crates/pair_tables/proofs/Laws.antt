@@ -8,6 +8,7 @@ use native.Mathlib.Numerals.{add-one}
 use native.Mathlib.Omega.{arith}
 use native.Mathlib.Decide.{decLt}
 use lib.Dec.{T, ltb, lt→ltb}
+use lib.ListN.{length, getD, List·getD-eq-default}
 use lib.Seq.{take-length}
 use Rattle.state.specs.Cells.{width, pair, put}
 use Rattle.state.specs.Below.{someBelow}
@@ -15,7 +16,7 @@ use Rattle.state.proofs.Bools.{and-both, same-test, holds, fails}
 use Rattle.state.proofs.Below.{each-at, each-by, some-none, some-more}
 use Rattle.state.proofs.Ascending.{Ascends, ascends-by, at-most}
 use Rattle.state.proofs.Laws.{put-same, put-other}
-use Rattle.pair_tables.specs.Pairs.{pairCount, firstOf, secondOf, pairFits, pairsFit, pairAscends, pairsAscend, isPairOf, hasPair, withFirst, atPlace, tableOf}
+use Rattle.pair_tables.specs.Pairs.{pairSize, pairCount, firstOf, secondOf, pairFits, pairsFit, pairAscends, pairsAscend, isPairOf, hasPair, withSome, atPlace, tableOf}
 use Rattle.pair_tables.specs.Claims
 use Rattle.pair_tables.proofs.Pairs.{placeOf, with-length, is-pair, is-pair-by, has-at, has-by, fits-at, earlier-at, earlier-by, TableTo, whole, below, unique}
 
@@ -24,20 +25,20 @@ pub with-pairs-length : Claims.WithPairsLength
 with-pairs-length t cells = with-length (pairCount t) t cells
 
 pub with-pairs-reads : Claims.WithPairsReads
-unfolding hasPair withFirst
-with-pairs-reads limit t cells fit long i j = first (pairCount t) (omega arith)
+unfolding hasPair withSome
+with-pairs-reads bound t cells fit long i j = first (pairCount t) (omega arith)
   where
-    step : (n : ℕ) (b c d : Bool) → n < pairCount t → pair (withFirst n t cells) i j ≡ (b || c) → isPairOf t i j n ≡ d
-        → pair (put (withFirst n t cells) (firstOf t n) (secondOf t n) true) i j ≡ (b || (c || d))
+    step : (n : ℕ) (b c d : Bool) → n < pairCount t → pair (withSome n t cells) i j ≡ (b || c) → isPairOf t i j n ≡ d
+        → pair (put (withSome n t cells) (firstOf t n) (secondOf t n) true) i j ≡ (b || (c || d))
     step n b c true h e q =
         let same = is-pair t i j n (holds q) in
-        let range = fits-at limit t fit n h in
+        let range = fits-at bound t fit n h in
         rw (or-true c, or-true b, ← (same .0), ← (same .1))
-        (put-same (withFirst n t cells) (firstOf t n) (secondOf t n) true (range .1) (rw (with-length n t cells, long) (omega (arith, range .0, range .1))))
+        (put-same (withSome n t cells) bound (firstOf t n) (secondOf t n) true (with-length n t cells ∙ long) (range .0) (range .1))
     step n b c false h e q =
-        rw (or-false c) (put-other (withFirst n t cells) (firstOf t n) (secondOf t n) i j true (λ x y. fails q (is-pair-by t i j n (sym x) (sym y))) ∙ e)
+        rw (or-false c) (put-other (withSome n t cells) (firstOf t n) (secondOf t n) i j true (λ x y. fails q (is-pair-by t i j n (sym x) (sym y))) ∙ e)
 
-    first : (n : ℕ) → n ≤ pairCount t → pair (withFirst n t cells) i j ≡ (pair cells i j || someBelow n (isPairOf t i j))
+    first : (n : ℕ) → n ≤ pairCount t → pair (withSome n t cells) i j ≡ (pair cells i j || someBelow n (isPairOf t i j))
     first zero h = rw (some-none (isPairOf t i j)) (sym (or-false (pair cells i j)))
     first (suc n) h = rw (some-more (isPairOf t i j) n) (step n (pair cells i j) (someBelow n (isPairOf t i j)) (isPairOf t i j n) h (first n (omega arith)) refl)
 
@@ -50,17 +51,17 @@ at-place related i j p h e =
     rw (row, column) refl
 
 -- a table with the relation's places
-module _ (limit : ℕ) (related : ℕ → ℕ → Bool) (t : List ℕ) (o : TableTo related (limit * width) t) where
-  first-below : (k : ℕ) → k < pairCount t → firstOf t k < limit
-  first-below k h = let p : placeOf t k < limit * width = o .ordered .inside k h in omega arith
+module _ (bound : ℕ) (related : ℕ → ℕ → Bool) (t : List ℕ) (o : TableTo related (bound * width) t) where
+  first-below : (k : ℕ) → k < pairCount t → firstOf t k < bound
+  first-below k h = let p : placeOf t k < bound * width = o .ordered .inside k h in omega arith
 
-  fits : T (pairsFit limit t)
+  fits : T (pairsFit bound t)
   unfolding pairsFit
-  fits = each-by (pairFits limit t) (pairCount t) at
+  fits = each-by (pairFits bound t) (pairCount t) at
     where
-      at : (k : ℕ) → k < pairCount t → T (pairFits limit t k)
+      at : (k : ℕ) → k < pairCount t → T (pairFits bound t k)
       at k h =
-          and-both (ltb (firstOf t k) limit) (ltb (secondOf t k) width) (lt→ltb (firstOf t k) limit (first-below k h)) (lt→ltb (secondOf t k) width (o .areas k h))
+          and-both (ltb (firstOf t k) bound) (ltb (secondOf t k) width) (lt→ltb (firstOf t k) bound (first-below k h)) (lt→ltb (secondOf t k) width (o .areas k h))
 
   ascends : T (pairsAscend t)
   unfolding pairsAscend
@@ -74,7 +75,7 @@ module _ (limit : ℕ) (related : ℕ → ℕ → Bool) (t : List ℕ) (o : Tabl
   met : (k : ℕ) → k < pairCount t → T (related (firstOf t k) (secondOf t k))
   met k h = rw (at-place related (firstOf t k) (secondOf t k) (placeOf t k) (o .areas k h) refl) at (o .ordered .met k h)
 
-  pairs : (i j : ℕ) → i < limit → j < width → hasPair t i j ≡ related i j
+  pairs : (i j : ℕ) → i < bound → j < width → hasPair t i j ≡ related i j
   pairs i j hi hj = same-test (hasPair t i j) (related i j) held there
     where
       held : T (hasPair t i j) → T (related i j)
@@ -85,11 +86,11 @@ module _ (limit : ℕ) (related : ℕ → ℕ → Bool) (t : List ℕ) (o : Tabl
           let r = o .ordered .found (i * width + j) (omega arith) (rw (at-place related i j (i * width + j) hj refl) b) in
           has-by t i j (r .0) (r .1) (o .areas (r .0) (r .1)) hj (r .2)
 
-  count : pairCount t ≤ limit * width
-  count = at-most (placeOf t) (pairCount t) (limit * width) (o .ordered .ascends) (o .ordered .inside)
+  count : pairCount t ≤ bound * width
+  count = at-most (placeOf t) (pairCount t) (bound * width) (o .ordered .ascends) (o .ordered .inside)
 
-  count-once : ((i j k : ℕ) → T (related i j) → T (related i k) → j ≡ k) → pairCount t ≤ limit
-  count-once once = at-most (firstOf t) (pairCount t) limit up first-below
+  count-once : ((i j k : ℕ) → T (related i j) → T (related i k) → j ≡ k) → pairCount t ≤ bound
+  count-once once = at-most (firstOf t) (pairCount t) bound up first-below
     where
       up : Ascends (firstOf t) (pairCount t)
       up k l h b = go (decLt (firstOf t k) (firstOf t l))
@@ -106,43 +107,61 @@ module _ (limit : ℕ) (related : ℕ → ℕ → Bool) (t : List ℕ) (o : Tabl
               absurd (omega (arith, p))
 
 pub table-whole : Claims.TableWhole
-table-whole limit related = whole related (limit * width)
+table-whole bound related = whole related (bound * width)
 
 pub table-fits : Claims.TableFits
-table-fits limit related = fits limit related (tableOf limit related) (below related (limit * width))
+table-fits bound related = fits bound related (tableOf bound related) (below related (bound * width))
 
 pub table-ascends : Claims.TableAscends
-table-ascends limit related = ascends limit related (tableOf limit related) (below related (limit * width))
+table-ascends bound related = ascends bound related (tableOf bound related) (below related (bound * width))
 
 pub table-holds : Claims.TableHolds
-table-holds limit related = pairs limit related (tableOf limit related) (below related (limit * width))
+table-holds bound related = pairs bound related (tableOf bound related) (below related (bound * width))
 
 pub table-count : Claims.TableCount
-table-count limit related = count limit related (tableOf limit related) (below related (limit * width))
+table-count bound related = count bound related (tableOf bound related) (below related (bound * width))
 
 pub table-count-once : Claims.TableCountOnce
-table-count-once limit related = count-once limit related (tableOf limit related) (below related (limit * width))
+table-count-once bound related = count-once bound related (tableOf bound related) (below related (bound * width))
+
+pub pairs-are-bytes : Claims.PairsAreBytes
+pairs-are-bytes bound t i small full fit = go (decLt i (length t))
+  where
+    k : ℕ
+    k = i / pairSize
+
+    byte : k < pairCount t → (j : ℕ) → j < pairSize → getD t (k * pairSize + j) 0 < 256
+    byte h zero b = let e : k * pairSize + 0 ≡ k * pairSize = omega arith in rw e (omega (arith, fits-at bound t fit k h .0))
+    byte h (suc zero) b = omega (arith, fits-at bound t fit k h .1)
+    byte h (suc (suc j)) b = absurd (omega arith)
+
+    go : Dec (i < length t) → getD t i 0 < 256
+    go (yes h) =
+        let here : k < pairCount t = omega arith in
+        let there : k * pairSize + i % pairSize ≡ i = omega arith in
+        rw there at (byte here (i % pairSize) (omega arith))
+    go (no h) = rw (List·getD-eq-default t 0 {n = i} (omega arith)) (omega arith)
 
 -- ---- the single encoding of a relation
 pub table-of-held : Claims.TableOfHeld
 unfolding pairsAscend
-table-of-held limit t full fit up related same = sym (take-length t) ∙ rw full (unique related t (limit * width) (pairCount t) table)
+table-of-held bound t full fit up related same = sym (take-length t) ∙ rw full (unique related t (bound * width) (pairCount t) table)
   where
     area : (k : ℕ) → k < pairCount t → secondOf t k < width
-    area k h = fits-at limit t fit k h .1
+    area k h = fits-at bound t fit k h .1
 
-    inside : (k : ℕ) → k < pairCount t → placeOf t k < limit * width
-    inside k h = let b = fits-at limit t fit k h in omega (arith, b .0, b .1)
+    inside : (k : ℕ) → k < pairCount t → placeOf t k < bound * width
+    inside k h = let b = fits-at bound t fit k h in omega (arith, b .0, b .1)
 
     next : (k : ℕ) → suc k < pairCount t → placeOf t k < placeOf t (suc k)
     next k h =
         let b : T (pairAscends t k) = each-at (pairAscends t) (pairCount t - 1) up k (omega arith) in
         rw (← (add-one k)) (earlier-at (firstOf t k) (secondOf t k) (firstOf t (k + 1)) (secondOf t (k + 1)) (area k (omega arith)) b)
 
-    held : (p : ℕ) → p < limit * width → atPlace related p ≡ hasPair t (p / width) (p % width)
+    held : (p : ℕ) → p < bound * width → atPlace related p ≡ hasPair t (p / width) (p % width)
     held p h = same (p / width) (p % width) (omega arith) (omega arith)
 
-    table : TableTo related (limit * width) t
+    table : TableTo related (bound * width) t
     table =
         record {
           long = omega arith;

@@ -23,7 +23,7 @@ use Rattle.state.proofs.Bools.{or-left, or-right, or-cases, and-both, and-left,
 use Rattle.state.proofs.Below.{each-at, some-at, some-by}
 use Rattle.state.proofs.Ascending.{upto, at-most}
 use Rattle.state.proofs.Laws.{put-length}
-use Rattle.pair_tables.specs.Pairs.{pairSize, pairCount, firstOf, secondOf, pairFits, pairsFit, earlier, isPairOf, hasPair, withFirst, atPlace, tableBelow}
+use Rattle.pair_tables.specs.Pairs.{pairSize, pairCount, firstOf, secondOf, pairFits, pairsFit, earlier, isPairOf, hasPair, withSome, atPlace, tableBelow}
 use Rattle.pair_tables.specs.Claims.{Whole}
 use Rattle.pair_tables.proofs.Order.{Ordered, none, pass, more, back, last, front, moved}
 
@@ -31,14 +31,14 @@ abbrev pub placeOf : List ℕ → ℕ → ℕ
 placeOf t k = firstOf t k * width + secondOf t k
 
 -- ---- one pair more put into a relation
-pub with-more : (n : ℕ) (t : List ℕ) (cells old : Pairs) → cells ≡ withFirst n t old → put cells (firstOf t n) (secondOf t n) true ≡ withFirst (n + 1) t old
-unfolding withFirst
+pub with-more : (n : ℕ) (t : List ℕ) (cells old : Pairs) → cells ≡ withSome n t old → put cells (firstOf t n) (secondOf t n) true ≡ withSome (n + 1) t old
+unfolding withSome
 with-more n t cells old e = rw (add-one n, e) refl
 
-pub with-length : (n : ℕ) (t : List ℕ) (cells : Pairs) → length (withFirst n t cells) ≡ length cells
-unfolding withFirst
+pub with-length : (n : ℕ) (t : List ℕ) (cells : Pairs) → length (withSome n t cells) ≡ length cells
+unfolding withSome
 with-length zero t cells = refl
-with-length (suc n) t cells = put-length (withFirst n t cells) (firstOf t n) (secondOf t n) true ∙ with-length n t cells
+with-length (suc n) t cells = put-length (withSome n t cells) (firstOf t n) (secondOf t n) true ∙ with-length n t cells
 
 -- ---- the tests of a pair
 pub is-pair : (t : List ℕ) (i j k : ℕ) → T (isPairOf t i j k) → (firstOf t k ≡ i) × (secondOf t k ≡ j)
@@ -61,13 +61,13 @@ pub has-by : (t : List ℕ) (i j k : ℕ) → k < pairCount t → secondOf t k <
 unfolding hasPair
 has-by t i j k h b c e = some-by (isPairOf t i j) (pairCount t) k h (is-pair-by t i j k (omega arith) (omega arith))
 
-pub fits-at : (limit : ℕ) (t : List ℕ) → T (pairsFit limit t) → (k : ℕ) → k < pairCount t → (firstOf t k < limit) × (secondOf t k < width)
+pub fits-at : (bound : ℕ) (t : List ℕ) → T (pairsFit bound t) → (k : ℕ) → k < pairCount t → (firstOf t k < bound) × (secondOf t k < width)
 unfolding pairsFit
-fits-at limit t fits k h =
-    let first = ltb (firstOf t k) limit in
+fits-at bound t fits k h =
+    let first = ltb (firstOf t k) bound in
     let second = ltb (secondOf t k) width in
-    let b : T (pairFits limit t k) = each-at (pairFits limit t) (pairCount t) fits k h in
-    (ltb→lt (firstOf t k) limit (and-left first second b), ltb→lt (secondOf t k) width (and-right first second b))
+    let b : T (pairFits bound t k) = each-at (pairFits bound t) (pairCount t) fits k h in
+    (ltb→lt (firstOf t k) bound (and-left first second b), ltb→lt (secondOf t k) width (and-right first second b))
 
 pub earlier-at : (i j m n : ℕ) → j < width → T (earlier i j m n) → i * width + j < m * width + n
 earlier-at i j m n h b = go (or-cases (ltb i m) (eqb i m && ltb j n) b)

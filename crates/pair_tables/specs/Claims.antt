@@ -6,7 +6,7 @@ use mathlib.Core.Path.{_≡_}
 use mathlib.Core.Bool.{Bool, _||_}
 use mathlib.Core.List.{List}
 use lib.Dec.{T}
-use lib.ListN.{length}
+use lib.ListN.{length, getD}
 use Rattle.state.specs.Cells.{Pairs, width, pair}
 use Rattle.pair_tables.specs.Pairs.{pairSize, pairCount, pairsFit, pairsAscend, hasPair, withPairs, tableOf}
 
@@ -37,13 +37,17 @@ TableAscends = (bound : ℕ) (related : ℕ → ℕ → Bool) → T (pairsAscend
 abbrev pub TableHolds : Type 0
 TableHolds = (bound : ℕ) (related : ℕ → ℕ → Bool) (i j : ℕ) → i < bound → j < width → hasPair (tableOf bound related) i j ≡ related i j
 
--- "Counts are at most 1,024, 64, 1,024, 2,048, 2,048": no more than there are pairs, and no more than there are first numbers where each has one second
+-- "Counts are at most 1,024, 64, 1,024, 2,048, 2,048 ..": no more than there are pairs, and no more than there are first numbers where each has one second
 abbrev pub TableCount : Type 0
 TableCount = (bound : ℕ) (related : ℕ → ℕ → Bool) → pairCount (tableOf bound related) ≤ bound * width
 
 abbrev pub TableCountOnce : Type 0
 TableCountOnce =
     (bound : ℕ) (related : ℕ → ℕ → Bool) → ((i j k : ℕ) → T (related i j) → T (related i k) → j ≡ k) → pairCount (tableOf bound related) ≤ bound
+
+-- what is in range is a byte
+abbrev pub PairsAreBytes : Type 0
+PairsAreBytes = (bound : ℕ) (t : List ℕ) (i : ℕ) → bound ≤ 256 → Whole t → T (pairsFit bound t) → getD t i 0 < 256
 
 -- ---- the single encoding of a relation: a whole table in range and ascending is the table of what it holds
 abbrev pub TableOfHeld : Type 0

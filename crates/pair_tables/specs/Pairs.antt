@@ -55,14 +55,14 @@ isPairOf t i j k = eqb (firstOf t k) i && eqb (secondOf t k) j
 unfoldable pub hasPair : List ℕ → (i j : ℕ) → Bool
 hasPair t i j = someBelow (pairCount t) (isPairOf t i j)
 
--- a relation with the first n pairs of the table put into it
-unfoldable pub withFirst : ℕ → List ℕ → Pairs → Pairs
-withFirst zero t cells = cells
-withFirst (suc n) t cells = put (withFirst n t cells) (firstOf t n) (secondOf t n) true
+-- a relation with some pairs of the table put into it, the first n
+unfoldable pub withSome : ℕ → List ℕ → Pairs → Pairs
+withSome zero t cells = cells
+withSome (suc n) t cells = put (withSome n t cells) (firstOf t n) (secondOf t n) true
 
 -- a relation with all pairs of the table put into it
 abbrev pub withPairs : List ℕ → Pairs → Pairs
-withPairs t cells = withFirst (pairCount t) t cells
+withPairs t cells = withSome (pairCount t) t cells
 
 -- ---- the table of a relation
 -- place k is the pair (k / 32, k % 32): (0, 0), (0, 1) .. (0, 31), (1, 0) .., ascending by first number, then second

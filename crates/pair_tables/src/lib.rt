@@ -1,6 +1,7 @@
 // A table of pairs, as a slice of its own bytes: whether it is in range and ascending, and the relation that it holds.
 ghost use mathlib.Core.Path.{_≡_};
 ghost use Rattle.pair_tables.specs.Pairs.{pairsFit, pairsAscend, withPairs};
+use state::State;
 
 // Is the first number of each pair below the limit, and the second that of an area?
 pub fn all_fit(table: &[u8], limit: u8) -> bool
@@ -9,7 +10,7 @@ pub fn all_fit(table: &[u8], limit: u8) -> bool
     let count = table.len() / 2;
     let mut fits = true;
     for k in 0..count {
-        fits = fits & ((table[k * 2] < limit) & (table[k * 2 + 1] < 32));
+        fits = fits & ((table[k * 2] < limit) & (table[k * 2 + 1] < State::AREAS));
     }
     fits
 }
@@ -20,14 +21,15 @@ pub fn all_ascend(table: &[u8]) -> bool
 {
     let count = table.len() / 2;
     let mut k: usize = 0;
-    let mut fits = true;
+    let mut ascends = true;
     while k + 1 < count {
         let first = table[k * 2];
         let next = table[k * 2 + 2];
-        fits = fits & ((first < next) | ((first == next) & (table[k * 2 + 1] < table[k * 2 + 3])));
+        ascends = ascends
+            & ((first < next) | ((first == next) & (table[k * 2 + 1] < table[k * 2 + 3])));
         k = k + 1;
     }
-    fits
+    ascends
 }
 
 // Puts each pair of the table into the relation.

@@ -6,15 +6,19 @@ use mathlib.Core.List.{List, [], _∷_, _++_, map}
 use native.Mathlib.Omega.{arith}
 use lib.Dec.{T}
 use lib.ListN.{length, drop, length-drop, take-append-drop}
-use Rattle.state.specs.Site.{Relation, owner, definition, structure, import, export, limit, firstKind, related}
+use Rattle.state.specs.Site.{Relation, limit, firstKind, related}
 use Rattle.soundness.specs.Sound.{Sound}
+use Rattle.pair_tables.specs.Pairs.{pairSize}
+use Rattle.pair_tables.specs.Claims.{Whole}
 use Rattle.pair_tables.proofs.Laws.{table-of-held}
 use Rattle.site_format.specs.Format.{headerSize, Content, pairsOf, labels, rowOf, tables, countIn, offsetIn, sizeIn, part}
 use Rattle.site_format.specs.Header.{placedFrom}
+use Rattle.site_format.specs.Claims.{joined}
+use Rattle.site_format.proofs.Tables.{pair-size}
+use Rattle.site_format.proofs.Laws.{at-offset, behind-it, no-gap, part-size}
 use Rattle.site_file.specs.Reading.{stateIn}
 use Rattle.site_file.specs.Encode.{AreBytes, Lawful, contentOf, bodyOf, countsOf, offsetsFrom, fieldBytes, fieldsOf, encode}
 use Rattle.site_file.proofs.Fields.{fieldsFrom, fields-stated}
-use Rattle.site_file.proofs.Placed.{content-of, all-sized, joined, rest-joined, at-offset, behind-it}
 use Rattle.site_file.proofs.Held.{derived, shaped, in-table, sound-by}
 use Rattle.site_file.proofs.Checked.{Checked}
 
@@ -24,21 +28,19 @@ module _ (file : List ℕ) (k : Checked file) where
 
   -- each table has the bytes that its count says, and its count is what its bytes say
   pub sized : (c : Content) → length (part file c) ≡ sizeIn file c
-  sized = content-of (λ c. length (part file c) ≡ sizeIn file c) (all-sized file tables headerSize (k .placed))
+  sized = part-size file (k .placed)
 
-  pairs-whole : (r : Relation) → length (part file (pairsOf r)) ≡ length (part file (pairsOf r)) / 2 * 2
-  pairs-whole owner = let e = sized (pairsOf owner) in omega arith
-  pairs-whole definition = let e = sized (pairsOf definition) in omega arith
-  pairs-whole structure = let e = sized (pairsOf structure) in omega arith
-  pairs-whole import = let e = sized (pairsOf import) in omega arith
-  pairs-whole export = let e = sized (pairsOf export) in omega arith
+  pairs-sized : (r : Relation) → length (part file (pairsOf r)) ≡ countIn file (pairsOf r) * pairSize
+  pairs-sized r = sized (pairsOf r) ∙ ap (λ (n : ℕ). countIn file (pairsOf r) * n) (pair-size r)
+
+  pairs-whole : (r : Relation) → Whole (part file (pairsOf r))
+  pairs-whole r = let e = pairs-sized r in omega arith
 
   counted : (c : Content) → countIn file c ≡ length (part file c) / rowOf c .size
-  counted (pairsOf owner) = let e = sized (pairsOf owner) in omega arith
-  counted (pairsOf definition) = let e = sized (pairsOf definition) in omega arith
-  counted (pairsOf structure) = let e = sized (pairsOf structure) in omega arith
-  counted (pairsOf import) = let e = sized (pairsOf import) in omega arith
-  counted (pairsOf export) = let e = sized (pairsOf export) in omega arith
+  counted (pairsOf r) =
+      let e = pairs-sized r in
+      let half : countIn file (pairsOf r) ≡ length (part file (pairsOf r)) / pairSize = omega arith in
+      half ∙ ap (λ (n : ℕ). length (part file (pairsOf r)) / n) (sym (pair-size r))
   counted labels = let e = sized labels in omega arith
 
   pub lawful : Lawful (stateIn file) (part file labels)
@@ -73,7 +75,7 @@ module _ (file : List ℕ) (k : Checked file) where
       ∙ ap (λ (n : ℕ). offsetsFrom (at + n) (stateIn file) (part file labels) rest) (sym (sized c) ∙ ap length (written c)))
 
   rest-body : drop headerSize file ≡ bodyOf (stateIn file) (part file labels) tables
-  rest-body = rest-joined file tables headerSize (k .placed) ∙ body tables
+  rest-body = no-gap file (k .placed) ∙ body tables
 
   file-long : length file ≡ headerSize + length (bodyOf (stateIn file) (part file labels) tables)
   file-long =

@@ -3,31 +3,19 @@
 -- Assumes nothing.
 use Prim.Native.Nat.{ℕ, _≤_}
 use mathlib.Core.Path.{_≡_, refl, ap, _∙_}
-use mathlib.Core.Bool.{Bool, true, false, _||_, not}
-use mathlib.Core.List.{List, [], _∷_}
+use mathlib.Core.Bool.{Bool, false, _||_, not}
+use mathlib.Core.List.{List}
 use borrow.Author.Tests.{le-ltb, eq-eqb}
 use lib.Dec.{T, eqb, ltb, eqb→eq, nltb→le}
 use lib.ListN.{length}
-use Rattle.state.proofs.Bools.{and-both, and-left, and-right, is-true, fails, so-not, not-not}
+use Rattle.state.proofs.Bools.{is-true, fails, so-not, so, neither}
 use Rattle.state.proofs.Checks.{passed, none-met, Passed, all-passed}
 use Rattle.soundness.specs.Tests.{isConsistent, isValid}
 use Rattle.label_tables.specs.Labels.{labelsListed}
 use Rattle.site_format.specs.Format.{headerSize, Content, labels, rowOf, tables, eachTable, field, countIn, part, inRange, ascending}
+use Rattle.site_format.proofs.Tables.{test-of, by-test}
 use Rattle.site_format.specs.Header.{countsFit, placedFrom}
-use Rattle.site_file.proofs.Placed.{Each, content-of}
 use Rattle.site_file.specs.Reading.{stateIn, noOwner, definedTwice, checks, refusalOf, readOf}
-
--- ---- each table
-each-test : (test : Content → Bool) (cs : List Content) → T (eachTable cs test) → Each (λ c. T (test c)) cs
-each-test test [] t = tt
-each-test test (c ∷ rest) t = (and-left (test c) (eachTable rest test) t, each-test test rest (and-right (test c) (eachTable rest test) t))
-
-test-of : (test : Content → Bool) → T (eachTable tables test) → (c : Content) → T (test c)
-test-of test t = content-of (λ c. T (test c)) (each-test test tables t)
-
-by-test : (test : Content → Bool) (cs : List Content) → ((c : Content) → T (test c)) → T (eachTable cs test)
-by-test test [] f = tt
-by-test test (c ∷ rest) f = and-both (test c) (eachTable rest test) (f c) (by-test test rest f)
 
 -- ---- what the checks say
 pub record Checked (file : List ℕ) : Type 0 where
@@ -44,26 +32,19 @@ pub record Checked (file : List ℕ) : Type 0 where
   pub defined-once : definedTwice (stateIn file) ≡ false
   pub valid : T (isValid (stateIn file))
 
--- 28 in its parts
-abbrev Sorted : (none unnamed unlisted twice : Bool) → Type 0
-Sorted none unnamed unlisted twice = (none ≡ false) × (unnamed ≡ false) × (unlisted ≡ false) × (twice ≡ false)
+-- 28 is not met: none of its parts is
+abbrev Passed28 : (none unnamed unlisted twice : Bool) → Type 0
+Passed28 none unnamed unlisted twice = (none ≡ false) × (unnamed ≡ false) × (unlisted ≡ false) × (twice ≡ false)
 
-sorted : (none unnamed unlisted twice : Bool) → (none || (unnamed || unlisted) || twice) ≡ false → Sorted none unnamed unlisted twice
-sorted false false false false e = (refl, refl, refl, refl)
-sorted true b c d e = absurd (fails e tt)
-sorted false true c d e = absurd (fails e tt)
-sorted false false true d e = absurd (fails e tt)
-sorted false false false true e = absurd (fails e tt)
+parts : (none unnamed unlisted twice : Bool) → (none || (unnamed || unlisted) || twice) ≡ false → Passed28 none unnamed unlisted twice
+parts none unnamed unlisted twice e =
+    let a = neither (none || (unnamed || unlisted)) twice e in
+    let b = neither none (unnamed || unlisted) (a .0) in
+    let c = neither unnamed unlisted (b .1) in
+    (b .0, c .0, c .1, a .1)
 
-unsorted : (none unnamed unlisted twice : Bool) → Sorted none unnamed unlisted twice → (none || (unnamed || unlisted) || twice) ≡ false
-unsorted none unnamed unlisted twice s = rw (s .0, s .1, s .2, s .3) refl
-
--- `not a` fails where a holds
-so : (a : Bool) → not a ≡ false → T a
-so a e = not-not a (fails e)
-
-not-below : (m n : ℕ) → T (not (ltb m n)) → n ≤ m
-not-below m n t = nltb→le m n t
+joined : (none unnamed unlisted twice : Bool) → Passed28 none unnamed unlisted twice → (none || (unnamed || unlisted) || twice) ≡ false
+joined none unnamed unlisted twice s = rw (s .0, s .1, s .2, s .3) refl
 
 not-above : (m n : ℕ) → n ≤ m → T (not (ltb m n))
 not-above m n h = rw (le-ltb m n h) tt
@@ -72,10 +53,10 @@ pub checked : (file : List ℕ) → refusalOf file ≡ 0 → Checked file
 unfolding refusalOf
 checked file e =
     record {
-      header-long = not-below (length file) 28 (so-not (ltb (length file) 28) (fails (p .0)));
+      header-long = nltb→le (length file) 28 (so-not (ltb (length file) 28) (fails (p .0)));
       version-known = eqb→eq (field file 0) 1 (so (eqb (field file 0) 1) (p .1 .0));
       length-stated = eqb→eq (field file 2) (length file) (so (eqb (field file 2) (length file)) (p .1 .1 .0));
-      counts-fit = λ c. not-below (rowOf c .most) (countIn file c) (test-of (λ x. not (ltb (rowOf x .most) (countIn file x))) (so (countsFit file) (p .1 .1 .1 .0)) c);
+      counts-fit = λ c. nltb→le (rowOf c .most) (countIn file c) (test-of (λ x. not (ltb (rowOf x .most) (countIn file x))) (so (countsFit file) (p .1 .1 .1 .0)) c);
       placed = so (placedFrom file tables headerSize) (p .1 .1 .1 .1 .0);
       in-range = test-of (λ x. inRange x (part file x)) (so (eachTable tables (λ x. inRange x (part file x))) (p .1 .1 .1 .1 .1 .0));
       ascends = test-of (λ x. ascending x (part file x)) (so (eachTable tables (λ x. ascending x (part file x))) (p .1 .1 .1 .1 .1 .1 .0));
@@ -89,8 +70,8 @@ checked file e =
     p : Passed (checks file)
     p = all-passed (checks file) tt e
 
-    q : Sorted (noOwner (stateIn file)) (not (isConsistent (stateIn file))) (not (labelsListed (stateIn file .areas) (part file labels))) (definedTwice (stateIn file))
-    q = sorted (noOwner (stateIn file)) (not (isConsistent (stateIn file))) (not (labelsListed (stateIn file .areas) (part file labels))) (definedTwice (stateIn file)) (p .1 .1 .1 .1 .1 .1 .1 .0)
+    q : Passed28 (noOwner (stateIn file)) (not (isConsistent (stateIn file))) (not (labelsListed (stateIn file .areas) (part file labels))) (definedTwice (stateIn file))
+    q = parts (noOwner (stateIn file)) (not (isConsistent (stateIn file))) (not (labelsListed (stateIn file .areas) (part file labels))) (definedTwice (stateIn file)) (p .1 .1 .1 .1 .1 .1 .1 .0)
 
 pub accepted : (file : List ℕ) → Checked file → refusalOf file ≡ 0
 unfolding refusalOf
@@ -102,7 +83,7 @@ accepted file k =
     ∙ passed _ _ (hold (placedFrom file tables headerSize) (k .placed))
     ∙ passed _ _ (hold (eachTable tables (λ x. inRange x (part file x))) (by-test (λ x. inRange x (part file x)) tables (k .in-range)))
     ∙ passed _ _ (hold (eachTable tables (λ x. ascending x (part file x))) (by-test (λ x. ascending x (part file x)) tables (k .ascends)))
-    ∙ passed _ _ (unsorted (noOwner (stateIn file)) (not (isConsistent (stateIn file))) (not (labelsListed (stateIn file .areas) (part file labels))) (definedTwice (stateIn file)) (k .owned, hold (isConsistent (stateIn file)) (k .named), hold (labelsListed (stateIn file .areas) (part file labels)) (k .labelled), k .defined-once))
+    ∙ passed _ _ (joined (noOwner (stateIn file)) (not (isConsistent (stateIn file))) (not (labelsListed (stateIn file .areas) (part file labels))) (definedTwice (stateIn file)) (k .owned, hold (isConsistent (stateIn file)) (k .named), hold (labelsListed (stateIn file .areas) (part file labels)) (k .labelled), k .defined-once))
     ∙ passed _ _ (hold (isValid (stateIn file)) (k .valid))
     ∙ none-met
   where

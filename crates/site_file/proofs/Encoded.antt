@@ -8,23 +8,24 @@ use native.Mathlib.Nat.{mul-le-mul-right}
 use native.Mathlib.Omega.{arith}
 use lib.Dec.{T}
 use lib.ListN.{length, getD, length-append}
-use Rattle.state.specs.Site.{owner, definition, structure, import, export, limit, firstKind, related}
+use Rattle.state.specs.Site.{Kind, user, area, object, owner, definition, structure, import, export, limit, firstKind, related}
 use Rattle.state.specs.Walk.{somePair}
 use Rattle.state.specs.declared.State.{State}
 use Rattle.state.proofs.Bools.{is-true}
 use Rattle.state.proofs.Laws.{some-pair}
 use Rattle.soundness.specs.Sound.{Sound}
-use Rattle.soundness.specs.Tests.{allDefined}
-use Rattle.soundness.proofs.Laws.{consistent-decided, defined-decided, valid-decided}
-use Rattle.pair_tables.specs.Pairs.{hasPair}
-use Rattle.pair_tables.proofs.Laws.{table-whole, table-fits, table-ascends, table-holds, table-count, table-count-once}
-use Rattle.label_tables.proofs.Laws.{label-count-fits}
+use Rattle.soundness.proofs.Laws.{consistent-decided, valid-decided}
+use Rattle.soundness.proofs.Names.{sound-lists, same-by-names}
+use Rattle.pair_tables.specs.Pairs.{hasPair, tableOf}
+use Rattle.pair_tables.proofs.Laws.{pairs-are-bytes, table-whole, table-fits, table-ascends, table-holds, table-count, table-count-once}
+use Rattle.label_tables.proofs.Laws.{label-count-fits, labels-are-bytes}
+use Rattle.site_format.proofs.Tables.{content-of, pair-size}
 use Rattle.site_format.specs.Format.{headerSize, Content, pairsOf, labels, rowOf, tables, field, countIn, sizeIn, part, inRange, ascending}
 use Rattle.site_file.specs.Reading.{stateIn}
-use Rattle.site_file.specs.Encode.{Lawful, contentOf, bodyOf, countsOf, offsetsFrom, fieldBytes, fieldsOf}
+use Rattle.site_file.specs.Encode.{AreBytes, Lawful, contentOf, bodyOf, countsOf, offsetsFrom, fieldBytes, fieldsOf, encode}
 use Rattle.site_file.proofs.Fields.{twice, field-written}
-use Rattle.site_file.proofs.Placed.{content-of, Stated, all-written, all-placed}
-use Rattle.site_file.proofs.Held.{derived, shaped, in-table, same-state}
+use Rattle.site_file.proofs.Placed.{Stated, all-written, all-placed}
+use Rattle.site_file.proofs.Held.{derived, shaped, in-table, derived-lists, not-twice}
 use Rattle.site_file.proofs.Checked.{Checked}
 
 -- every number of the list has 16 bits
@@ -40,6 +41,23 @@ small-at (n ∷ rest) s (suc k) = small-at rest (s .1) k
 small-append : (xs ys : List ℕ) → Small xs → Small ys → Small (xs ++ ys)
 small-append [] ys p q = q
 small-append (n ∷ xs) ys p q = (p .0, small-append xs ys (p .1) q)
+
+-- ---- what is written is bytes
+bytes-append : (xs ys : List ℕ) → AreBytes xs → AreBytes ys → AreBytes (xs ++ ys)
+bytes-append [] ys p q i = q i
+bytes-append (x ∷ xs) ys p q zero = p zero
+bytes-append (x ∷ xs) ys p q (suc i) = bytes-append xs ys (λ k. p (suc k)) q i
+
+field-bytes : (fields : List ℕ) → Small fields → AreBytes (fieldBytes fields)
+field-bytes [] s i = omega arith
+field-bytes (n ∷ rest) s zero = omega arith
+field-bytes (n ∷ rest) s (suc zero) = omega (arith, s .0)
+field-bytes (n ∷ rest) s (suc (suc i)) = field-bytes rest (s .1) i
+
+limit-small : (k : Kind) → limit k ≤ 256
+limit-small user = omega arith
+limit-small area = omega arith
+limit-small object = omega arith
 
 -- how many bytes tables can have
 abbrev mostBytes : List Content → ℕ
@@ -70,11 +88,7 @@ module _ (s : State) (l : List ℕ) (h : Sound s) (law : Lawful s l) where
   count labels = label-count-fits l (law .in-range) (law .ascending)
 
   whole : (c : Content) → length (contentOf s l c) ≡ length (contentOf s l c) / rowOf c .size * rowOf c .size
-  whole (pairsOf owner) = table-whole 32 (related s owner)
-  whole (pairsOf definition) = table-whole 64 (related s definition)
-  whole (pairsOf structure) = table-whole 32 (related s structure)
-  whole (pairsOf import) = table-whole 64 (related s import)
-  whole (pairsOf export) = table-whole 64 (related s export)
+  whole (pairsOf r) = rw (pair-size r) (table-whole (limit (firstKind r)) (related s r))
   whole labels = law .whole
 
   size-fits : (c : Content) → length (contentOf s l c) ≤ rowOf c .most * rowOf c .size
@@ -97,6 +111,20 @@ module _ (s : State) (l : List ℕ) (h : Sound s) (law : Lawful s l) where
 
   small : Small (fieldsOf s l)
   small = (omega arith, (body-small, small-append (countsOf s l tables) (offsetsFrom headerSize s l tables) (small-counts tables) (small-offsets tables headerSize body-small)))
+
+  content-bytes : (c : Content) → AreBytes (contentOf s l c)
+  content-bytes (pairsOf r) i =
+      pairs-are-bytes (limit (firstKind r)) (tableOf (limit (firstKind r)) (related s r)) i (limit-small (firstKind r)) (table-whole (limit (firstKind r)) (related s r))
+      (table-fits (limit (firstKind r)) (related s r))
+  content-bytes labels i = labels-are-bytes l i (law .whole) (law .in-range)
+
+  body-bytes : (cs : List Content) → AreBytes (bodyOf s l cs)
+  body-bytes [] i = omega arith
+  body-bytes (c ∷ rest) i = bytes-append (contentOf s l c) (bodyOf s l rest) (content-bytes c) (body-bytes rest) i
+
+  pub are-bytes : AreBytes (encode s l)
+  unfolding encode
+  are-bytes = bytes-append (fieldBytes (fieldsOf s l)) (bodyOf s l tables) (field-bytes (fieldsOf s l) small) (body-bytes tables)
 
   -- ---- a file with these bytes
   module _ (file : List ℕ) (e : file ≡ fieldBytes (fieldsOf s l) ++ bodyOf s l tables) where
@@ -163,7 +191,7 @@ module _ (s : State) (l : List ℕ) (h : Sound s) (law : Lawful s l) where
     -- the state that the file holds
     pub held : stateIn file ≡ s
     held =
-        same-state (stateIn file) s (derived file) (shaped file) h
+        same-by-names (stateIn file) s (shaped file) (h .shaped) (derived-lists (stateIn file) (derived file) (shaped file)) (sound-lists s h)
         (λ r i j hi hj. in-table file r (in-range (pairsOf r)) i j ∙ ap (λ (t : List ℕ). hasPair t i j) (written (pairsOf r)) ∙ table-holds (limit (firstKind r)) (related s r) i j hi hj)
 
     some-owner : T (somePair (s .owners) (λ u a. true))
@@ -185,6 +213,6 @@ module _ (s : State) (l : List ℕ) (h : Sound s) (law : Lawful s l) where
           owned = rw held (ap not (is-true (somePair (s .owners) (λ u a. true)) some-owner));
           named = rw held (consistent-decided s .1 (h .consistent));
           labelled = rw (held, written labels) (law .listed);
-          defined-once = rw held (ap not (is-true (allDefined (s .objects) (s .definitions)) (defined-decided s .1 (h .acceptable .objects))));
+          defined-once = rw held (not-twice s (h .acceptable .objects) (λ o a p. h .consistent definition o a p .first));
           valid = rw held (valid-decided s .1 (h .valid));
         }

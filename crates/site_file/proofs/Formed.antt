@@ -1,4 +1,4 @@
--- Refusals 28 and 29 of a state whose lists follow from its pairs: what 28 asks in the paper's words is what the functions test.
+-- Refusal 28 of a state whose lists follow from its pairs: what 28 asks in the paper's words is what the functions test.
 -- Assumes nothing.
 use Prim.Native.Nat.{ℕ}
 use mathlib.Core.Path.{_≡_, refl, sym, ap, ap₂, _∙_}
@@ -6,27 +6,27 @@ use mathlib.Core.Bool.{Bool, true, false, _&&_, _||_, not}
 use mathlib.Core.List.{List}
 use lib.Dec.{T}
 use Rattle.state.specs.Walk.{somePair}
-use Rattle.state.specs.Site.{area, listed, Shaped}
+use Rattle.state.specs.Site.{area, object, listed, Shaped}
 use Rattle.state.specs.declared.State.{State}
-use Rattle.state.proofs.Bools.{same-test}
+use Rattle.state.proofs.Bools.{is-false, not-so, same-test}
 use Rattle.state.proofs.Laws.{some-pair}
-use Rattle.soundness.specs.Tests.{allDefined, isConsistent, isAcceptable, someListed}
+use Rattle.soundness.specs.Tests.{isConsistent, isAcceptable, someListed}
 use Rattle.soundness.specs.Rows.{wellFormedOf}
-use Rattle.soundness.proofs.Laws.{defined-decided, acceptable-decided, some-decided, well-formed-of-record}
+use Rattle.soundness.proofs.Laws.{acceptable-decided, some-decided, well-formed-of-record}
 use Rattle.label_tables.specs.Labels.{labelsListed}
 use Rattle.site_file.specs.Reading.{noOwner, namesUnlisted, definedTwice}
-use Rattle.site_file.proofs.Held.{Derived, derived-lists, acceptable-by}
+use Rattle.site_file.proofs.Held.{Derived, derived-lists, acceptable-by, not-twice}
 
 -- the four tests, as the functions join them and as 28 does
-joined : (named defined owned labelled : Bool) → not (named && defined && owned) || not labelled ≡ (not owned || (not named || not labelled) || not defined)
-joined true true true true = refl
-joined true true true false = refl
-joined true true false labelled = refl
+joined : (named twice owned labelled : Bool) → not (named && not twice && owned) || not labelled ≡ (not owned || (not named || not labelled) || twice)
 joined true false true true = refl
 joined true false true false = refl
 joined true false false labelled = refl
-joined false defined true labelled = refl
-joined false defined false labelled = refl
+joined true true true true = refl
+joined true true true false = refl
+joined true true false labelled = refl
+joined false twice true labelled = refl
+joined false twice false labelled = refl
 
 -- what `are_well_formed` tells of the record
 abbrev pub formed : State → Bool
@@ -34,10 +34,11 @@ formed s = wellFormedOf (s .users) (s .areas) (s .objects) (s .owners) (s .defin
 
 module _ (s : State) (d : Derived s) (shape : Shaped s) where
   -- it is acceptable where each object is defined once
-  acceptable-is : isAcceptable s ≡ allDefined (s .objects) (s .definitions)
+  acceptable-is : isAcceptable s ≡ not (definedTwice s)
   acceptable-is =
-      same-test (isAcceptable s) (allDefined (s .objects) (s .definitions)) (λ t. defined-decided s .1 (acceptable-decided s .0 t .objects))
-      (λ t. acceptable-decided s .1 (acceptable-by s d shape t))
+      same-test (isAcceptable s) (not (definedTwice s))
+      (λ t. rw (not-twice s (acceptable-decided s .0 t .objects) (λ o a p. derived-lists s d shape object o .1 (a, p))) tt)
+      (λ t. acceptable-decided s .1 (acceptable-by s d shape (is-false (definedTwice s) (not-so (definedTwice s) t))))
 
   -- there is an area where there is an owner pair
   some-area-is : someListed (s .areas) ≡ somePair (s .owners) (λ u a. true)
@@ -58,7 +59,7 @@ module _ (s : State) (d : Derived s) (shape : Shaped s) where
     ill-formed =
         sym
         (ap (λ (b : Bool). not b || not (labelsListed (s .areas) l)) (well-formed-of-record s shape ∙ ap₂ (λ (a b : Bool). isConsistent s && a && b) acceptable-is some-area-is)
-        ∙ joined (isConsistent s) (allDefined (s .objects) (s .definitions)) (somePair (s .owners) (λ u a. true)) (labelsListed (s .areas) l))
+        ∙ joined (isConsistent s) (definedTwice s) (somePair (s .owners) (λ u a. true)) (labelsListed (s .areas) l))
 
     -- the record alone decides 28, or the labels do
     pub by-record : {told : Bool} → told ≡ formed s → not told ≡ true → (noOwner s || namesUnlisted s l || definedTwice s) ≡ true

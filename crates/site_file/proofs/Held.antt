@@ -2,27 +2,27 @@
 -- Assumes nothing.
 use Prim.Native.Nat.{ℕ, _*_, _<_}
 use mathlib.Core.Path.{_≡_, refl, sym, ap, subst, _∙_}
-use mathlib.Core.Bool.{Bool, true, false, _&&_, _||_}
-use mathlib.Core.Logic.{inl, inr, _↔_}
+use mathlib.Core.Bool.{Bool, true, false, _&&_, _||_, not}
 use mathlib.Core.List.{List}
-use native.Mathlib.Omega.{arith}
-use native.Mathlib.Decide.{decLt}
-use lib.Dec.{T, ltb, lt→ltb}
+use native.Mathlib.Decide.{ℕ-discrete}
+use borrow.Author.Tests.{ne-eqb}
+use lib.Dec.{T, eqb, ltb, lt→ltb, eqb→eq, eqb-refl}
 use lib.ListN.{length}
 use Rattle.state.specs.Cells.{Pairs, width, member, pair}
 use Rattle.state.specs.Site.{Kind, user, area, object, limit, listed, members, Relation, owner, definition, structure, import, export, firstKind, cells, related, empty, Shaped}
 use Rattle.state.specs.Walk.{somePair, hasFirst, hasSecond}
 use Rattle.state.specs.declared.State.{State}
-use Rattle.state.proofs.Bools.{and-both, and-right, fails, same-test, not-not}
-use Rattle.state.proofs.Laws.{some-pair, has-first, has-second, related-outside, empty-related, empty-shaped, one-record}
+use Rattle.state.proofs.Bools.{and-both, and-left, and-right, is-false, fails, not-so, so}
+use Rattle.state.proofs.Laws.{some-pair, has-first, has-second, related-inside, empty-related, empty-shaped}
 use Rattle.rows.specs.Rows.{firsts, seconds}
 use Rattle.rows.proofs.Laws.{firsts-length, firsts-reads, seconds-length, seconds-reads}
-use Rattle.soundness.specs.Sound.{Consistent, Acceptable, Sound}
-use Rattle.soundness.specs.Tests.{allDefined, isConsistent, isValid}
-use Rattle.soundness.proofs.Laws.{consistent-decided, defined-decided, valid-decided}
+use Rattle.soundness.specs.Sound.{Consistent, DefinedOnce, Acceptable, Sound}
+use Rattle.soundness.specs.Tests.{isConsistent, isValid}
+use Rattle.soundness.proofs.Laws.{consistent-decided, valid-decided}
+use Rattle.soundness.proofs.Names.{ListsNamed}
 use Rattle.pair_tables.specs.Pairs.{pairsFit, hasPair}
 use Rattle.site_format.specs.Format.{pairsOf, part}
-use Rattle.site_file.specs.Reading.{relationIn, stateIn, noOwner, definedTwice}
+use Rattle.site_file.specs.Reading.{relationIn, stateIn, noOwner, definedElsewhere, definedTwice}
 use Rattle.pair_tables.proofs.Laws.{with-pairs-length, with-pairs-reads}
 
 -- the lists of the state are those that its owner and definition pairs name
@@ -73,59 +73,50 @@ module _ (s : State) (d : Derived s) where
   objects-read : (o : ℕ) → listed s object o ≡ (ltb o 64 && hasFirst (s .definitions) o)
   objects-read o = ap (λ (l : List Bool). member l o) (d .objects) ∙ firsts-reads 64 (s .definitions) o
 
--- ---- whom and what the pairs name
--- a pair that makes the number a listed one: "Listed users and areas are those in owner pairs; listed objects those in definition pairs."
-abbrev Names : State → Kind → ℕ → Type 0
-Names s user u = (a : ℕ) × T (related s owner u a)
-Names s area a = (u : ℕ) × T (related s owner u a)
-Names s object o = (a : ℕ) × T (related s definition o a)
-
-sound-lists : (s : State) → Sound s → (k : Kind) (i : ℕ) → T (listed s k i) ↔ Names s k i
-sound-lists s h user u = (h .acceptable .users u, λ n. h .consistent owner u (n .0) (n .1) .first)
-sound-lists s h area a = (h .acceptable .areas a, λ n. h .consistent owner (n .0) a (n .1) .second)
-sound-lists s h object o = (λ t. let d = h .acceptable .objects o t in (d .place, d .defined), λ n. h .consistent definition o (n .0) (n .1) .first)
-
--- a pair has numbers in their range
-in-bounds : (s : State) → Shaped s → (r : Relation) (i j : ℕ) → T (related s r i j) → (i < limit (firstKind r)) × (j < limit area)
-in-bounds s shape r i j t = (first (decLt i (limit (firstKind r))), second (decLt j (limit area)))
-  where
-    first : Dec (i < limit (firstKind r)) → i < limit (firstKind r)
-    first (yes h) = h
-    first (no h) = absurd (fails (related-outside s r i j shape (inl (omega arith))) t)
-
-    second : Dec (j < limit area) → j < limit area
-    second (yes h) = h
-    second (no h) = absurd (fails (related-outside s r i j shape (inr (omega arith))) t)
-
+-- ---- its lists are what its pairs name
 listed-by : (n : ℕ) (b c : Bool) (i : ℕ) → i < n → b ≡ (ltb i n && c) → T c → T b
 listed-by n b c i h e t = subst T (sym e) (and-both (ltb i n) c (lt→ltb i n h) t)
 
-pub derived-lists : (s : State) → Derived s → Shaped s → (k : Kind) (i : ℕ) → T (listed s k i) ↔ Names s k i
+pub derived-lists : (s : State) → Derived s → Shaped s → ListsNamed s
 derived-lists s d shape user u = (
   λ t. has-first (s .owners) u .0 (and-right (ltb u 32) (hasFirst (s .owners) u) (subst T (users-read s d u) t)),
-  λ n. listed-by 32 (listed s user u) (hasFirst (s .owners) u) u (in-bounds s shape owner u (n .0) (n .1) .0) (users-read s d u) (has-first (s .owners) u .1 n),
+  λ n. listed-by 32 (listed s user u) (hasFirst (s .owners) u) u (related-inside s owner u (n .0) shape (n .1) .0) (users-read s d u) (has-first (s .owners) u .1 n),
 )
 derived-lists s d shape area a = (
   λ t. has-second (s .owners) a .0 (and-right (ltb a width) (hasSecond (s .owners) a) (subst T (areas-read s d a) t)),
-  λ n. listed-by width (listed s area a) (hasSecond (s .owners) a) a (in-bounds s shape owner (n .0) a (n .1) .1) (areas-read s d a) (has-second (s .owners) a .1 n),
+  λ n. listed-by width (listed s area a) (hasSecond (s .owners) a) a (related-inside s owner (n .0) a shape (n .1) .1) (areas-read s d a) (has-second (s .owners) a .1 n),
 )
 derived-lists s d shape object o = (
   λ t. has-first (s .definitions) o .0 (and-right (ltb o 64) (hasFirst (s .definitions) o) (subst T (objects-read s d o) t)),
-  λ n. listed-by 64 (listed s object o) (hasFirst (s .definitions) o) o (in-bounds s shape definition o (n .0) (n .1) .0) (objects-read s d o) (has-first (s .definitions) o .1 n),
+  λ n. listed-by 64 (listed s object o) (hasFirst (s .definitions) o) o (related-inside s definition o (n .0) shape (n .1) .0) (objects-read s d o) (has-first (s .definitions) o .1 n),
 )
 
 -- ---- a state whose lists follow from its pairs is sound where the checks pass
 module _ (s : State) (d : Derived s) (shape : Shaped s) where
-  -- every listed user owns an area, and every listed area has an owner
-  pub acceptable-by : T (allDefined (s .objects) (s .definitions)) → Acceptable s
-  acceptable-by t = record { users = λ u h. derived-lists s d shape user u .0 h; areas = λ a h. derived-lists s d shape area a .0 h; objects = defined-decided s .0 t }
+  twice-by : (o a b : ℕ) → T (related s definition o a) → T (related s definition o b) → (b ≡ a → ⊥) → T (definedTwice s)
+  twice-by o a b p q ne =
+      some-pair (s .definitions) (definedElsewhere s) .1
+      (o, a, p, some-pair (s .definitions) (λ m n. eqb m o && not (eqb n a)) .1 (o, b, q, and-both (eqb o o) (not (eqb b a)) (eqb-refl o) (rw (ne-eqb b a ne) tt)))
+
+  defined-once : definedTwice s ≡ false → (o : ℕ) → T (listed s object o) → DefinedOnce s o
+  defined-once once o t =
+      let n = derived-lists s d shape object o .0 t in
+      record { place = n .0; defined = n .1; only = λ b q. only (n .0) b (n .1) q (ℕ-discrete b (n .0)) }
+    where
+      only : (a b : ℕ) → T (related s definition o a) → T (related s definition o b) → Dec (b ≡ a) → b ≡ a
+      only a b p q (yes e) = e
+      only a b p q (no ne) = absurd (fails once (twice-by o a b p q ne))
+
+  -- every listed user owns an area, every listed area has an owner, and every listed object is defined once
+  pub acceptable-by : definedTwice s ≡ false → Acceptable s
+  acceptable-by once = record { users = λ u h. derived-lists s d shape user u .0 h; areas = λ a h. derived-lists s d shape area a .0 h; objects = defined-once once }
 
   pub sound-by : noOwner s ≡ false → T (isConsistent s) → definedTwice s ≡ false → T (isValid s) → Sound s
   sound-by owned named once valid =
       record {
         shaped = shape;
         consistent = consistent;
-        acceptable = acceptable-by (not-not (allDefined (s .objects) (s .definitions)) (fails once));
+        acceptable = acceptable-by once;
         some-area = (pair .1, consistent owner (pair .0) (pair .1) (pair .2) .second);
         valid = valid-decided s .0 valid;
       }
@@ -134,26 +125,17 @@ module _ (s : State) (d : Derived s) (shape : Shaped s) where
       consistent = consistent-decided s .0 named
 
       pair : (u : ℕ) × (a : ℕ) × T (related s owner u a) × T true
-      pair = some-pair (s .owners) (λ u a. true) .0 (not-not (somePair (s .owners) (λ u a. true)) (fails owned))
+      pair = some-pair (s .owners) (λ u a. true) .0 (so (somePair (s .owners) (λ u a. true)) owned)
 
--- ---- two states with the same pairs, one whose lists follow from its pairs and one that is sound, are one
-abbrev SamePairs : (s t : State) → Type 0
-SamePairs s t = (r : Relation) (i j : ℕ) → i < limit (firstKind r) → j < limit area → related s r i j ≡ related t r i j
-
-follows : (s t : State) → Shaped s → SamePairs s t → (r : Relation) (i j : ℕ) → T (related s r i j) → T (related t r i j)
-follows s t shape same r i j b = let h = in-bounds s shape r i j b in subst T (same r i j (h .0) (h .1)) b
-
-names-follow : (s t : State) → Shaped s → SamePairs s t → (k : Kind) (i : ℕ) → Names s k i → Names t k i
-names-follow s t shape same user u n = (n .0, follows s t shape same owner u (n .0) (n .1))
-names-follow s t shape same area a n = (n .0, follows s t shape same owner (n .0) a (n .1))
-names-follow s t shape same object o n = (n .0, follows s t shape same definition o (n .0) (n .1))
-
-pub same-state : (s t : State) → Derived s → Shaped s → Sound t → SamePairs s t → s ≡ t
-same-state s t d shape sound same =
-    one-record s t shape (sound .shaped)
-    (record {
-      lists = λ k i h. same-test (listed s k i) (listed t k i)
-          (λ b. sound-lists t sound k i .1 (names-follow s t shape same k i (derived-lists s d shape k i .0 b)))
-          (λ b. derived-lists s d shape k i .1 (names-follow t s (sound .shaped) (λ r m n hm hn. sym (same r m n hm hn)) k i (sound-lists t sound k i .0 b)));
-      pairs = same;
-    })
+-- in an acceptable state whose pairs name listed objects, none is defined twice
+pub not-twice : (s : State) → ((o : ℕ) → T (listed s object o) → DefinedOnce s o) → ((o a : ℕ) → T (related s definition o a) → T (listed s object o)) → definedTwice s ≡ false
+not-twice s once named = is-false (definedTwice s) none
+  where
+    none : T (definedTwice s) → ⊥
+    none t =
+        let p = some-pair (s .definitions) (definedElsewhere s) .0 t in
+        let q = some-pair (s .definitions) (λ m n. eqb m (p .0) && not (eqb n (p .1))) .0 (p .3) in
+        let same : q .0 ≡ p .0 = eqb→eq (q .0) (p .0) (and-left (eqb (q .0) (p .0)) (not (eqb (q .1) (p .1))) (q .3)) in
+        let d = once (p .0) (named (p .0) (p .1) (p .2)) in
+        let alike : q .1 ≡ p .1 = d .only (q .1) (rw same at (q .2)) ∙ sym (d .only (p .1) (p .2)) in
+        not-so (eqb (q .1) (p .1)) (and-right (eqb (q .0) (p .0)) (not (eqb (q .1) (p .1))) (q .3)) (rw alike (eqb-refl (p .1)))

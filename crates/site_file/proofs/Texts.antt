@@ -9,7 +9,6 @@ use Rattle.label_tables.specs.Labels.{labelCount, labelLength, labelIndex}
 use Rattle.site_format.specs.Format.{labels, offsetIn, part}
 use Rattle.site_file.specs.Reading.{refusalOf}
 use Rattle.site_file.specs.Finder.{hasLabel, textAt, textLength}
-use Rattle.site_file.specs.Claims.{AtFront}
 
 module _ (file : List ℕ) (a : ℕ) where
   -- the entry that is looked up
@@ -20,9 +19,9 @@ module _ (file : List ℕ) (a : ℕ) where
   unfolding textAt textLength
   found t = rw (is-true (hasLabel file a) t) (refl, refl)
 
-  pub front : (T (hasLabel file a) → ⊥) → AtFront file a
+  pub front : (T (hasLabel file a) → ⊥) → (textAt file a ≡ 0) × (textLength file a ≡ 0)
   unfolding textAt textLength
-  front f = record { starts = rw (is-false (hasLabel file a) f) refl; long = rw (is-false (hasLabel file a) f) refl }
+  front f = rw (is-false (hasLabel file a) f) (refl, refl)
 
   -- what it says that there is a label
   pub no-refusal : T (hasLabel file a) → refusalOf file ≡ 0

@@ -2,19 +2,24 @@
 use Prim.Native.Nat.{ℕ, _+_, _*_, _≤_, _<_}
 use mathlib.Core.Path.{_≡_}
 use mathlib.Core.Logic.{_↔_}
-use mathlib.Core.List.{List}
-use lib.ListN.{length, getD}
+use mathlib.Core.List.{List, []}
+use lib.ListN.{length, take, drop}
+use Rattle.state.specs.Site.{founding}
 use Rattle.state.specs.declared.State.{State}
 use Rattle.soundness.specs.Sound.{Sound}
-use Rattle.label_tables.specs.Labels.{labelSize, labelCount, labelArea, labelLength, textByte}
+use Rattle.label_tables.specs.Labels.{labelSize, labelCount, labelArea, labelLength}
 use Rattle.site_format.specs.Format.{labels, offsetIn, part}
 use Rattle.site_file.specs.Reading.{refusalOf, readOf}
 use Rattle.site_file.specs.Encode.{AreBytes, Lawful, encode}
 use Rattle.site_file.specs.Finder.{textAt, textLength, labelText}
 
--- "A site file of any bytes gets a sound state or a refusal number", and the state beside the number is sound as well
+-- "A site file of any bytes gets a sound state or a refusal number" (demand 1), and the state beside the number is sound as well
 abbrev pub ReadSound : Type 0
 ReadSound = (file : List ℕ) → Sound (readOf file .state)
+
+-- "the state beside a refusal is F"
+abbrev pub RefusedFounding : Type 0
+RefusedFounding = (file : List ℕ) → (refusalOf file ≡ 0 → ⊥) → readOf file .state ≡ founding
 
 -- ---- the single encoding
 -- the file is accepted, with this state and this label block
@@ -29,7 +34,7 @@ pub record Encoding (file : List ℕ) (s : State) (l : List ℕ) : Type 0 where
   pub lawful : Lawful s l
   pub encoded : file ≡ encode s l
 
--- "A site file is accepted exactly when it is the single encoding of a sound state and its labels."
+-- "A site file is accepted exactly when it is the single encoding of a sound state and its labels." (demand 2)
 abbrev pub SingleEncoding : Type 0
 SingleEncoding = (file : List ℕ) → AreBytes file → (s : State) (l : List ℕ) → Accepted file s l ↔ Encoding file s l
 
@@ -38,22 +43,29 @@ abbrev pub OneFile : Type 0
 OneFile = (f g : List ℕ) → AreBytes f → AreBytes g → (s : State) (l : List ℕ) → Accepted f s l → Accepted g s l → f ≡ g
 
 abbrev pub OneMeaning : Type 0
-OneMeaning = (file : List ℕ) (s t : State) (l m : List ℕ) → AreBytes file → Encoding file s l → Encoding file t m → (s ≡ t) × (l ≡ m)
+OneMeaning = (file : List ℕ) (s t : State) (l m : List ℕ) → Encoding file s l → Encoding file t m → (s ≡ t) × (l ≡ m)
+
+-- and each sound state with lawful labels has a file: its encoding is bytes, and is accepted with them
+abbrev pub EncodeBytes : Type 0
+EncodeBytes = (s : State) (l : List ℕ) → Sound s → Lawful s l → AreBytes (encode s l)
+
+abbrev pub EncodeAccepted : Type 0
+EncodeAccepted = (s : State) (l : List ℕ) → Sound s → Lawful s l → Accepted (encode s l) s l
 
 -- ---- the label finder
--- the text of the area of entry k, in a file that is accepted: it starts at byte 2 of the entry, and is the entry's text
-pub record TextOf (file : List ℕ) (k : ℕ) : Type 0 where
-  pub starts : textAt file (labelArea (part file labels) k) ≡ offsetIn file labels + (k * labelSize + 2)
-  pub long : textLength file (labelArea (part file labels) k) ≡ labelLength (part file labels) k
-  pub text : (i : ℕ) → i < labelLength (part file labels) k → getD (labelText file (labelArea (part file labels) k)) i 0 ≡ textByte (part file labels) k i
+-- the part for the area of entry k of the table, in a file that is accepted: it starts at byte 2 of the entry, and is the entry's text
+pub record TextOf (file table : List ℕ) (k : ℕ) : Type 0 where
+  pub starts : textAt file (labelArea table k) ≡ offsetIn file labels + (k * labelSize + 2)
+  pub text : labelText file (labelArea table k) ≡ take (labelLength table k) (drop (k * labelSize + 2) table)
+  pub long : length (labelText file (labelArea table k)) ≡ labelLength table k
 
 abbrev pub LabelOf : Type 0
-LabelOf = (file : List ℕ) (k : ℕ) → refusalOf file ≡ 0 → k < labelCount (part file labels) → TextOf file k
+LabelOf = (file : List ℕ) (k : ℕ) → refusalOf file ≡ 0 → k < labelCount (part file labels) → TextOf file (part file labels) k
 
 -- "the part of length 0 at the file's front"
 pub record AtFront (file : List ℕ) (a : ℕ) : Type 0 where
   pub starts : textAt file a ≡ 0
-  pub long : textLength file a ≡ 0
+  pub text : labelText file a ≡ []
 
 -- "For a refused file, or an area with no label"
 abbrev pub NoLabelRefused : Type 0

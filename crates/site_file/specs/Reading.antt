@@ -1,6 +1,6 @@
 -- The refusals of a site file in the paper's order, and what an accepted file holds (document 01, 'The site file').
 use Prim.Native.Nat.{ℕ}
-use mathlib.Core.Bool.{Bool, true, _||_, not, cond}
+use mathlib.Core.Bool.{Bool, true, _&&_, _||_, not, cond}
 use mathlib.Core.List.{List, [], _∷_, _++_}
 use lib.Dec.{eqb}
 use Rattle.state.specs.Checks.{Check, _when_, firstMet}
@@ -9,7 +9,7 @@ use Rattle.state.specs.Site.{Relation, owner, definition, structure, import, ex
 use Rattle.state.specs.Walk.{somePair}
 use Rattle.state.specs.declared.State.{State}
 use Rattle.rows.specs.Rows.{firsts, seconds}
-use Rattle.soundness.specs.Tests.{allDefined, isConsistent, isValid}
+use Rattle.soundness.specs.Tests.{isConsistent, isValid}
 use Rattle.pair_tables.specs.Pairs.{withPairs}
 use Rattle.label_tables.specs.Labels.{labelsListed}
 use Rattle.site_format.specs.Format.{eachTable, pairsOf, labels, tables, part, inRange, ascending}
@@ -30,7 +30,15 @@ stateBy relation =
 unfoldable pub stateIn : (file : List ℕ) → State
 stateIn file = stateBy (relationIn file)
 
--- ---- the conditions
+-- ---- the conditions, and the table of refusals
+-- 26: "a number, length, text byte or filler byte outside its range"
+abbrev pub outOfRange : (file : List ℕ) → Bool
+outOfRange file = not (eachTable tables (λ c. inRange c (part file c)))
+
+-- 27: "a table not strictly ascending by first byte, then second (labels by area)"
+abbrev pub outOfOrder : (file : List ℕ) → Bool
+outOfOrder file = not (eachTable tables (λ c. ascending c (part file c)))
+
 -- 28: "no owner pair; an unlisted area or object named; an object defined twice"
 abbrev pub noOwner : State → Bool
 noOwner s = not (somePair (s .owners) (λ u a. true))
@@ -38,25 +46,22 @@ noOwner s = not (somePair (s .owners) (λ u a. true))
 abbrev pub namesUnlisted : State → (block : List ℕ) → Bool
 namesUnlisted s l = not (isConsistent s) || not (labelsListed (s .areas) l)
 
+-- two definition pairs of one object
+abbrev pub definedElsewhere : State → (o a : ℕ) → Bool
+definedElsewhere s o a = somePair (s .definitions) (λ p b. eqb p o && not (eqb b a))
+
 abbrev pub definedTwice : State → Bool
-definedTwice s = not (allDefined (s .objects) (s .definitions))
+definedTwice s = somePair (s .definitions) (definedElsewhere s)
 
--- ---- the table of refusals
--- 26 and 27, of the tables' bytes: "a number, length, text byte or filler byte outside its range"; "a table not strictly ascending"
-abbrev pub outOfRange : (file : List ℕ) → Check
-outOfRange file = 26 when not (eachTable tables (λ c. inRange c (part file c)))
-
-abbrev pub outOfOrder : (file : List ℕ) → Check
-outOfOrder file = 27 when not (eachTable tables (λ c. ascending c (part file c)))
-
+-- 26 and 27, of the tables' bytes
 abbrev pub tableChecks : (file : List ℕ) → List Check
-tableChecks file = outOfRange file ∷ outOfOrder file ∷ []
+tableChecks file = (26 when outOfRange file) ∷ (27 when outOfOrder file) ∷ []
 
 -- 28 and 29, of the state that the file holds, and of its labels. 29: "an import or export pair whose area lacks access"
 abbrev pub stateChecks : State → (block : List ℕ) → List Check
 stateChecks s l = (28 when noOwner s || namesUnlisted s l || definedTwice s) ∷ (29 when not (isValid s)) ∷ []
 
--- "Reader refusals, lowest number first over the whole file"
+-- "Reader refusals, lowest number first over the whole file": 21 to 25 (site_format, Header), then these
 abbrev pub checks : (file : List ℕ) → List Check
 checks file = headerChecks file ++ tableChecks file ++ stateChecks (stateIn file) (part file labels)
 

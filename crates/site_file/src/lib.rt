@@ -107,6 +107,7 @@ pub fn read(file: &[u8]) -> Reading
     }
     let in_range = tables_fit(file);
     let ascending = tables_ascend(file);
+    // The lower number is given where both apply.
     if !in_range {
         return refused(26);
     }
@@ -137,7 +138,7 @@ fn front(file: &[u8]) -> &[u8]
     ensures bytes { λ r. ⌜ now r ≡ [] ⌝ }
     ensures place { λ r. ⌜ r .ptr ≡ behind (file .entry .ptr) 0 ⌝ }
 {
-    &file[0..0]
+    site_format::part_from(file, 0, 0)
 }
 
 // The text of the area's label, as a part of the file; for a refused file, or an area with no label, the part of length 0 at the file's front.

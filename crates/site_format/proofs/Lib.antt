@@ -1,2 +1,3 @@
--- Tables joins six tests, one a table, as a function makes them; it serves the crate above too.
+-- Laws has the claims of specs/. Tables has facts and tests of each table, for this crate and the one above.
 pub mod Tables
+pub mod Laws

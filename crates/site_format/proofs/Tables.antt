@@ -1,17 +1,49 @@
--- Six truth values, one for each table, joined from the left as a function joins them, are the test of each table.
+-- Whatever holds of each table, and a test of each.
+--     Each, content-of          a fact of each table
+--     test-of, by-test          what a test of each table says, and what it takes
+--     pair-size                 the size of an element of the five tables of pairs
+--     seven, each-of-six        truth values joined from the left, as a function joins them
 -- Assumes nothing.
-use mathlib.Core.Path.{_≡_, refl, ap, ap₂, _∙_}
-use mathlib.Core.Bool.{Bool, true, false, _&&_}
-use Rattle.state.specs.Site.{owner, definition, structure, import, export}
-use Rattle.site_format.specs.Format.{Content, pairsOf, labels, tables, eachTable}
+use mathlib.Core.Path.{_≡_, refl, sym, ap₂, _∙_}
+use mathlib.Core.Bool.{Bool, true, false, _&&_, and-true, and-assoc}
+use mathlib.Core.List.{List, [], _∷_}
+use lib.Dec.{T}
+use Rattle.state.specs.Site.{Relation, owner, definition, structure, import, export}
+use Rattle.state.proofs.Bools.{and-both, and-left, and-right}
+use Rattle.pair_tables.specs.Pairs.{pairSize}
+use Rattle.site_format.specs.Format.{Content, pairsOf, labels, rowOf, tables, eachTable}
 
-pub and-assoc : (a b c : Bool) → (a && b) && c ≡ a && (b && c)
-and-assoc true b c = refl
-and-assoc false b c = refl
+-- whatever holds of each table in the list
+abbrev pub Each : (Content → Type 0) → List Content → Type 0
+Each P [] = Unit
+Each P (c ∷ rest) = P c × Each P rest
 
-and-true : (a : Bool) → a ≡ a && true
-and-true true = refl
-and-true false = refl
+pub content-of : (P : Content → Type 0) → Each P tables → (c : Content) → P c
+content-of P e (pairsOf owner) = e .0
+content-of P e (pairsOf definition) = e .1 .0
+content-of P e (pairsOf structure) = e .1 .1 .0
+content-of P e (pairsOf import) = e .1 .1 .1 .0
+content-of P e (pairsOf export) = e .1 .1 .1 .1 .0
+content-of P e labels = e .1 .1 .1 .1 .1 .0
+
+each-test : (test : Content → Bool) (cs : List Content) → T (eachTable cs test) → Each (λ c. T (test c)) cs
+each-test test [] t = tt
+each-test test (c ∷ rest) t = (and-left (test c) (eachTable rest test) t, each-test test rest (and-right (test c) (eachTable rest test) t))
+
+pub test-of : (test : Content → Bool) → T (eachTable tables test) → (c : Content) → T (test c)
+test-of test t = content-of (λ c. T (test c)) (each-test test tables t)
+
+pub by-test : (test : Content → Bool) (cs : List Content) → ((c : Content) → T (test c)) → T (eachTable cs test)
+by-test test [] f = tt
+by-test test (c ∷ rest) f = and-both (test c) (eachTable rest test) (f c) (by-test test rest f)
+
+-- a table of pairs has pairs
+pub pair-size : (r : Relation) → rowOf (pairsOf r) .size ≡ pairSize
+pair-size owner = refl
+pair-size definition = refl
+pair-size structure = refl
+pair-size import = refl
+pair-size export = refl
 
 -- seven joined from the left, joined from the right
 pub seven : (a b c d e f g : Bool) → (((((a && b) && c) && d) && e) && f) && g ≡ a && (b && (c && (d && (e && (f && g)))))
@@ -35,5 +67,5 @@ pub each-of-six : (test : Content → Bool) {a b c d e f : Bool}
     → ((((a && b) && c) && d) && e) && f ≡ eachTable tables test
 each-of-six test {a} {b} {c} {d} {e} {f} p q r s t u =
     ap₂ _&&_ (ap₂ _&&_ (ap₂ _&&_ (ap₂ _&&_ (ap₂ _&&_ p q) r) s) t) u
-    ∙ and-true _
+    ∙ sym (and-true _)
     ∙ seven (test (pairsOf owner)) (test (pairsOf definition)) (test (pairsOf structure)) (test (pairsOf import)) (test (pairsOf export)) (test labels) true

@@ -29,7 +29,7 @@ pub fn field_at(file: &[u8], at: u8) -> u16
 // How many bytes the table has whose count the header states there.
 fn size_at(file: &[u8], count: u8, size: u8) -> usize
     ensures value { λ r. ⌜ r ≡ field (now (file .entry)) count * size ⌝ }
-    ensures small { λ r. ⌜ r ≤ 16776960 ⌝ }
+    ensures small { λ r. ⌜ r ≤ 16711425 ⌝ }
 {
     field_at(file, count) as usize * size as usize
 }

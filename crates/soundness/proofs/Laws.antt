@@ -6,21 +6,21 @@ use mathlib.Core.Logic.{_↔_}
 use mathlib.Core.Bool.{Bool, true, _&&_}
 use native.Mathlib.Omega.{arith}
 use lib.Dec.{T, eqb}
-use Rattle.state.specs.Cells.{Members, member}
 use Rattle.state.specs.Walk.{eachPair, hasFirst, hasSecond}
-use Rattle.state.specs.Site.{Kind, user, area, object, Relation, owner, definition, structure, import, export, members, cells, firstKind, listed, related, owns, founding}
+use Rattle.state.specs.Site.{user, area, Relation, owner, definition, structure, import, export, members, cells, firstKind, listed, related, owns, founding}
 use Rattle.state.specs.declared.State.{State}
-use Rattle.state.proofs.Bools.{and-both, and-left, and-right, fails, same-test}
-use Rattle.state.proofs.Laws.{some-member, each-member, each-pair, has-first, has-second, founding-listed, founding-owner, founding-no-pair, founding-shaped, one-record}
+use Rattle.state.proofs.Bools.{and-both, and-left, and-right, fails}
+use Rattle.state.proofs.Laws.{some-member, each-member, each-pair, has-first, has-second, founding-listed, founding-owner, founding-no-pair, founding-shaped}
 use Rattle.access.specs.Lending.{lending}
 use Rattle.access.specs.Answer.{access}
-use Rattle.soundness.specs.Sound.{Named, Consistent, Acceptable, Sound}
+use Rattle.soundness.specs.Sound.{Named, Consistent}
 use Rattle.soundness.specs.Tests.{named, consistentOf, isConsistent, allOwn, allOwned, once, allDefined, acceptableOf, isAcceptable, someListed, validOf, isValid, isSound}
 use Rattle.soundness.specs.Rows.{wellFormedOf, soundOf}
 use Rattle.soundness.specs.Claims
 use Rattle.soundness.proofs.Tests.{named-decided, once-decided}
 use Rattle.soundness.proofs.Rows
 use Rattle.soundness.proofs.Shape.{shape-holds}
+use Rattle.soundness.proofs.Names.{sound-lists, same-by-names}
 
 -- ---- valid
 pub valid-decided : Claims.ValidDecided
@@ -195,20 +195,9 @@ founding-sound =
       };
     }
 
--- ---- the relations fix the lists
-lists-follow : (s t : State) → Sound s → Sound t → ((r : Relation) (i j : ℕ) → related s r i j ≡ related t r i j) → (k : Kind) (i : ℕ) → T (listed s k i) → T (listed t k i)
-lists-follow s t h k e user u l = let d = h .acceptable .users u l in k .consistent owner u (d .0) (subst T (e owner u (d .0)) (d .1)) .first
-lists-follow s t h k e area a l = let d = h .acceptable .areas a l in k .consistent owner (d .0) a (subst T (e owner (d .0) a) (d .1)) .second
-lists-follow s t h k e object o l =
-    let d = h .acceptable .objects o l in k .consistent definition o (d .place) (subst T (e definition o (d .place)) (d .defined)) .first
-
+-- ---- a sound record is that of its relations
 pub record-of-relations : Claims.RecordOfRelations
-record-of-relations s t h k e =
-    one-record s t (h .shaped) (k .shaped)
-    (record {
-      lists = λ l i inside. same-test (listed s l i) (listed t l i) (lists-follow s t h k e l i) (lists-follow t s k h (λ r m n. sym (e r m n)) l i);
-      pairs = λ r i j hi hj. e r i j;
-    })
+record-of-relations s t h k e = same-by-names s t (h .shaped) (k .shaped) (sound-lists s h) (sound-lists t k) (λ r i j hi hj. e r i j)
 
 -- ---- the arrays of a record
 pub well-formed-of-record : Claims.WellFormedOfRecord

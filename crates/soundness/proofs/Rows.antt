@@ -11,14 +11,13 @@ use mathlib.Core.Logic.{_⊎_, inl, inr, _↔_}
 use mathlib.Core.Bool.{Bool, true, false, _&&_, _||_, not}
 use mathlib.Core.List.{List}
 use native.Mathlib.Omega.{arith}
-use native.Mathlib.Decide.{decLt}
 use borrow.Author.Tests.{eqb-true, eq-eqb}
 use lib.Dec.{T, eqb}
-use lib.ListN.{length, getD, List·getD-eq-default}
+use lib.ListN.{length, getD}
 use Rattle.state.specs.Cells.{Members, Pairs, width, member, pair}
 use Rattle.state.specs.Walk.{eachMember, eachPair, hasFirst, hasSecond}
 use Rattle.state.proofs.Bools.{and-both, and-left, and-right, or-left, or-right, or-cases, is-true, holds, fails, same-test, implied, implies}
-use Rattle.state.proofs.Laws.{member-cell, pair-cell, pair-past, each-member, each-pair, has-first, has-second}
+use Rattle.state.proofs.Laws.{member-cell, pair-cell, each-member, each-pair, has-first, has-second, member-inside, pair-area, pair-first}
 use Rattle.rows.specs.Rows.{row, transpose}
 use Rattle.rows.proofs.Laws.{row-reads, transpose-reads}
 use Rattle.access.specs.Lending.{Lending, moveBy, lendingOf}
@@ -29,28 +28,6 @@ use Rattle.soundness.specs.Rows.{cellNamed, cellReached, objectReached}
 use Rattle.soundness.specs.Tests.{named, allOwn, allOwned, once, validOf}
 use Rattle.state.proofs.Below.{each-goes, each-at, each-by, each-stop, each-done, Single, count-one, one-counted}
 use Rattle.soundness.proofs.Tests.{named-decided, Once, once-decided}
-
--- ---- where what is there lies
-pub member-inside : (set : Members) (i : ℕ) → T (member set i) → i < length set
-member-inside set i t = go (decLt i (length set))
-  where
-    go : Dec (i < length set) → i < length set
-    go (yes h) = h
-    go (no h) = absurd (fails (member-cell set i ∙ List·getD-eq-default set false (omega arith)) t)
-
-pair-area : (c : Pairs) (i j : ℕ) → T (pair c i j) → j < width
-pair-area c i j t = go (decLt j width)
-  where
-    go : Dec (j < width) → j < width
-    go (yes h) = h
-    go (no h) = absurd (fails (pair-past c i j (inl (omega arith))) t)
-
-pair-first : (c : Pairs) (n i j : ℕ) → length c ≡ n * width → T (pair c i j) → i < n
-pair-first c n i j long t = go (decLt i n)
-  where
-    go : Dec (i < n) → i < n
-    go (yes h) = h
-    go (no h) = absurd (fails (pair-past c i j (inr (omega arith))) t)
 
 -- ---- the members of a set
 -- number i meets the test, if it is in the set

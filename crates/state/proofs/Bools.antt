@@ -67,6 +67,15 @@ pub not-not : (a : Bool) → (T (not a) → ⊥) → T a
 not-not true f = tt
 not-not false f = f tt
 
+-- a check that is not met says that its test passes
+pub so : (a : Bool) → not a ≡ false → T a
+so a e = not-not a (fails e)
+
+-- and where neither of two is met, each is not
+pub neither : (a b : Bool) → a || b ≡ false → (a ≡ false) × (b ≡ false)
+neither true b e = absurd (fails e tt)
+neither false b e = (refl, e)
+
 -- `not a || b` says that a implies b
 pub implied : (a b : Bool) → (T a → T b) → T (not a || b)
 implied true b f = f tt

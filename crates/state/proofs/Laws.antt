@@ -13,7 +13,7 @@ use lib.ListN.{length, getD}
 use lib.Seq.{ext-getD}
 use Rattle.state.specs.Cells.{Pairs, width, member, mark, pair, put}
 use Rattle.state.specs.Walk.{someMember, somePair}
-use Rattle.state.specs.Site.{Kind, user, area, object, limit, members, kindNumber, afterMark, withListed, Relation, owner, definition, structure, import, export, firstKind, cells, related, relationNumber, afterPut, withPair, empty, founding, Shaped}
+use Rattle.state.specs.Site.{Kind, user, area, object, limit, members, kindNumber, afterMark, withListed, Relation, owner, definition, structure, import, export, firstKind, cells, related, relationNumber, afterPut, withPair, empty, founding}
 use Rattle.state.specs.Laws
 use Rattle.state.specs.declared.State.{State}
 use Rattle.state.proofs.Bools.{is-true, holds, fails, not-so, so-not, not-not}
@@ -200,12 +200,33 @@ cell-pair c k t =
     let place : k / width * width + k % width ≡ k = omega arith in
     rw (pair-inside c (k / width) (k % width) inside, place) t
 
-pair-second : (c : Pairs) (i j : ℕ) → T (pair c i j) → j < width
-pair-second c i j t = go (decLt j width)
+-- ---- what is there lies inside
+pub member-inside : Laws.MemberInside
+member-inside c i t = go (decLt i (length c))
+  where
+    go : Dec (i < length c) → i < length c
+    go (yes h) = h
+    go (no h) = absurd (fails (member-outside c i (omega arith)) t)
+
+pub pair-area : Laws.PairArea
+pair-area c i j t = go (decLt j width)
   where
     go : Dec (j < width) → j < width
     go (yes h) = h
     go (no h) = absurd (fails (pair-outside c i j (omega arith)) t)
+
+pub pair-first : Laws.PairFirst
+pair-first c n i j long t = go (decLt i n)
+  where
+    go : Dec (i < n) → i < n
+    go (yes h) = h
+    go (no h) = absurd (fails (pair-beyond c i j (omega arith)) t)
+
+pub listed-inside : Laws.ListedInside
+listed-inside s k i shaped t = rw (shaped .sets k) at (member-inside (members s k) i t)
+
+pub related-inside : Laws.RelatedInside
+related-inside s r i j shaped t = (pair-first (cells s r) (limit (firstKind r)) i j (shaped .relations r) t, pair-area (cells s r) i j t)
 
 pub some-pair : Laws.SomePair
 unfolding somePair
@@ -216,7 +237,7 @@ some-pair c test = (
   where
     found : (i j : ℕ) → T (pair c i j) → T (test i j) → T (somePair c test)
     found i j p t =
-        let h = pair-second c i j p in
+        let h = pair-area c i j p in
         let row : (i * width + j) / width ≡ i = omega arith in
         let column : (i * width + j) % width ≡ j = omega arith in
         some-there _ c (i * width + j) (rw (pair-inside c i j h) at p) (rw (row, column) t)
@@ -340,7 +361,7 @@ relate-outside s r i j v sh out = same-fields (withPair s r i j v) s (members-re
 
 -- ---- a pair put into cells
 pub put-same : Laws.PutSame
-put-same c i j v h l = pair-same c i j v h l
+put-same c n i j v long h l = pair-same c i j v l (omega arith)
 
 pub put-other : Laws.PutOther
 put-other c i j m n v ne = pair-other c i j m n v ne

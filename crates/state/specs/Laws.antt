@@ -62,7 +62,7 @@ RemoveAddsNone = (s : State) (r t : Relation) (i j m n : ℕ) → T (related (wi
 
 -- ---- a pair put into the cells of a relation by itself, for what fills one before there is a record
 abbrev pub PutSame : Type 0
-PutSame = (c : Pairs) (i j : ℕ) (v : Bool) → j < width → i * width + j < length c → pair (put c i j v) i j ≡ v
+PutSame = (c : Pairs) (n i j : ℕ) (v : Bool) → length c ≡ n * width → i < n → j < width → pair (put c i j v) i j ≡ v
 
 abbrev pub PutOther : Type 0
 PutOther = (c : Pairs) (i j m n : ℕ) (v : Bool) → (m ≡ i → n ≡ j → ⊥) → pair (put c i j v) m n ≡ pair c m n
@@ -98,6 +98,22 @@ HasFirst = (c : Pairs) (i : ℕ) → T (hasFirst c i) ↔ ((j : ℕ) × T (pair 
 
 abbrev pub HasSecond : Type 0
 HasSecond = (c : Pairs) (j : ℕ) → T (hasSecond c j) ↔ ((i : ℕ) × T (pair c i j))
+
+-- ---- what is there lies inside
+abbrev pub MemberInside : Type 0
+MemberInside = (c : Members) (i : ℕ) → T (member c i) → i < length c
+
+abbrev pub PairArea : Type 0
+PairArea = (c : Pairs) (i j : ℕ) → T (pair c i j) → j < width
+
+abbrev pub PairFirst : Type 0
+PairFirst = (c : Pairs) (n i j : ℕ) → length c ≡ n * width → T (pair c i j) → i < n
+
+abbrev pub ListedInside : Type 0
+ListedInside = (s : State) (k : Kind) (i : ℕ) → Shaped s → T (listed s k i) → i < limit k
+
+abbrev pub RelatedInside : Type 0
+RelatedInside = (s : State) (r : Relation) (i j : ℕ) → Shaped s → T (related s r i j) → (i < limit (firstKind r)) × (j < limit area)
 
 -- ---- what lies outside is not there, and writing it changes nothing
 abbrev pub ListedOutside : Type 0

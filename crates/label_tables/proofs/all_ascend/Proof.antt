@@ -1,7 +1,7 @@
--- `label_tables::all_ascend` meets its contract. The loop's invariant: what fits so far is whether the first k areas are each below the next.
+-- `label_tables::all_ascend` meets its contract. The loop's invariant: `ascends` says whether the first k areas are each below the next.
 -- Assumes nothing.
 use Prim.Native.Nat.{ℕ, _+_, _-_, _*_, _≤_}
-use mathlib.Core.Path.{_≡_, sym, ap₂}
+use mathlib.Core.Path.{refl, _≡_, sym}
 use mathlib.Core.List.{List}
 use native.Mathlib.Omega.{arith}
 use denote.Ref.{now}
@@ -10,19 +10,18 @@ use lib.ListN.{getD}
 use Rattle.state.specs.Below.{eachBelow}
 use Rattle.state.proofs.Below.{each-none, each-step, each-end}
 use Rattle.label_tables.specs.Labels.{labelAscends, labelsAscend}
-use Rattle.label_tables.proofs.Areas.{area-at}
 use Rattle.label_tables.proofs.all_ascend.Statement.{statement}
 use Rattle.label_tables.proofs.all_ascend.Tie as tie
 
 -- where the next entry's area stands
 next-area : (t : List ℕ) (k : ℕ) → ltb (getD t (k * 32) 0) (getD t (k * 32 + 32) 0) ≡ labelAscends t k
-next-area t k = let next : k * 32 + 32 ≡ (k + 1) * 32 = omega arith in rw next (ap₂ ltb (area-at t k) (area-at t (k + 1)))
+next-area t k = let next : k * 32 + 32 ≡ (k + 1) * 32 = omega arith in rw next refl
 
 abbrev Inv-loop : tie.InvT-loop
-Inv-loop table count k₀ fits₀ k fits = (k ≤ count - 1) × (fits ≡ eachBelow k (labelAscends table))
+Inv-loop table count k₀ ascends₀ k ascends = (k ≤ count - 1) × (ascends ≡ eachBelow k (labelAscends table))
 
 abbrev μ-loop : tie.MeasureT-loop
-μ-loop table count k₀ fits₀ k fits = count - k
+μ-loop table count k₀ ascends₀ k ascends = count - k
 
 loop-holds : tie.Need-loop-holds Inv-loop μ-loop
 loop-holds c = (omega arith, sym (each-none _))
@@ -30,20 +29,20 @@ loop-holds c = (omega arith, sym (each-none _))
 add-loop : tie.Need-add-loop Inv-loop μ-loop
 add-loop c = omega arith
 
-mul-fits : tie.Need-mul-fits Inv-loop μ-loop
-mul-fits c = omega arith
+mul-ascends : tie.Need-mul-ascends Inv-loop μ-loop
+mul-ascends c = omega arith
 
-shared-slice-read-fits : tie.Need-shared-slice-read-fits Inv-loop μ-loop
-shared-slice-read-fits c = omega arith
+shared-slice-read-ascends : tie.Need-shared-slice-read-ascends Inv-loop μ-loop
+shared-slice-read-ascends c = omega arith
 
-mul-fits-2 : tie.Need-mul-fits-2 Inv-loop μ-loop
-mul-fits-2 c = omega arith
+mul-ascends-2 : tie.Need-mul-ascends-2 Inv-loop μ-loop
+mul-ascends-2 c = omega arith
 
-add-fits : tie.Need-add-fits Inv-loop μ-loop
-add-fits c = omega arith
+add-ascends : tie.Need-add-ascends Inv-loop μ-loop
+add-ascends c = omega arith
 
-shared-slice-read-fits-2 : tie.Need-shared-slice-read-fits-2 Inv-loop μ-loop
-shared-slice-read-fits-2 c = omega arith
+shared-slice-read-ascends-2 : tie.Need-shared-slice-read-ascends-2 Inv-loop μ-loop
+shared-slice-read-ascends-2 c = omega arith
 
 add-k : tie.Need-add-k Inv-loop μ-loop
 add-k c = omega arith
@@ -68,11 +67,11 @@ all-ascend-spec =
     μ-loop
     loop-holds
     add-loop
-    mul-fits
-    shared-slice-read-fits
-    mul-fits-2
-    add-fits
-    shared-slice-read-fits-2
+    mul-ascends
+    shared-slice-read-ascends
+    mul-ascends-2
+    add-ascends
+    shared-slice-read-ascends-2
     add-k
     loop-less
     loop-again

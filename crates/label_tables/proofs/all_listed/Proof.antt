@@ -1,23 +1,15 @@
 -- `label_tables::all_listed` meets its contract. The loop's invariant: the areas of the first k entries are listed.
 -- Assumes nothing.
-use Prim.Native.Nat.{ℕ, _-_, _≤_}
+use Prim.Native.Nat.{_-_, _≤_}
 use mathlib.Core.Path.{_≡_, sym, _∙_}
-use mathlib.Core.Bool.{Bool, true}
-use mathlib.Core.List.{List}
+use mathlib.Core.Bool.{true}
 use native.Mathlib.Omega.{arith}
 use borrow.Author.Tests.{not-true, not-false}
-use denote.Ref.{now}
 use Rattle.state.specs.Below.{eachBelow}
-use Rattle.state.specs.Cells.{Members, member}
 use Rattle.state.proofs.Below.{each-none, each-goes, each-stop, each-done}
-use Rattle.label_tables.specs.Labels.{labelArea, labelsListed}
-use Rattle.label_tables.proofs.Areas.{area-at}
+use Rattle.label_tables.specs.Labels.{labelListed, labelsListed}
 use Rattle.label_tables.proofs.all_listed.Statement.{statement}
 use Rattle.label_tables.proofs.all_listed.Tie as tie
-
--- the test of entry k
-abbrev labelListed : Members → List ℕ → ℕ → Bool
-labelListed areas t k = member areas (labelArea t k)
 
 abbrev Inv-loop : tie.InvT-loop
 Inv-loop areas table count k₀ k = (k ≤ count) × (eachBelow k (labelListed areas table) ≡ true)
@@ -37,21 +29,11 @@ shared-slice-read-is-member c = omega arith
 is-member-requires : tie.Need-is-member-requires Inv-loop μ-loop
 is-member-requires c κs = tt
 
--- the area that was asked for is that of entry k
-asked : (c : tie.After-is-member Inv-loop μ-loop) →
-    let at = c .before .before .before in
-    let start = at .before .before .before in
-    labelListed (now (start .args .areas)) (now (start .args .table)) (at .loop .k) ≡ c .is-member .result
-asked c =
-    let at = c .before .before .before in
-    let start = at .before .before .before in
-    rw (← (area-at (now (start .args .table)) (at .loop .k))) (sym (c .is-member .ensures))
-
 returns : tie.Need-returns Inv-loop μ-loop
 unfolding labelsListed
 returns c =
     let at = c .before .before .before .before in
-    each-stop _ _ (at .loop .k) (omega arith) (asked (c .before) ∙ not-true _ (c .if1 .taken))
+    each-stop _ _ (at .loop .k) (omega arith) (sym (c .before .is-member .ensures) ∙ not-true _ (c .if1 .taken))
 
 add-k : tie.Need-add-k Inv-loop μ-loop
 add-k c = omega arith
@@ -62,7 +44,7 @@ loop-less c = omega arith
 loop-again : tie.Need-loop-again Inv-loop μ-loop
 loop-again c =
     let at = c .before .before .before .before in
-    (omega arith, each-goes _ _ (at .loop .inv .1) (asked (c .before) ∙ not-false _ (c .if1 .left)))
+    (omega arith, each-goes _ _ (at .loop .inv .1) (sym (c .before .is-member .ensures) ∙ not-false _ (c .if1 .left)))
 
 returns-2 : tie.Need-returns-2 Inv-loop μ-loop
 unfolding labelsListed

@@ -7,9 +7,9 @@ use native.Mathlib.Omega.{arith}
 use native.Mathlib.Decide.{ℕ-discrete}
 use borrow.Author.Tests.{eq-eqb, ne-eqb}
 use denote.Ref.{now}
-use Rattle.state.proofs.Below.{first-is, first-none}
+use Rattle.state.proofs.Below.{first-is}
 use Rattle.label_tables.specs.Labels.{labelArea, labelIndex}
-use Rattle.label_tables.proofs.Areas.{area-at}
+use Rattle.label_tables.proofs.Laws.{label-none}
 use Rattle.label_tables.proofs.index_of.Statement.{statement}
 use Rattle.label_tables.proofs.index_of.Tie as tie
 
@@ -33,8 +33,7 @@ unfolding labelIndex
 returns c =
     let at = c .before .before .before in
     let t = now (at .before .args .table) in
-    let met : labelArea t (at .loop .k) ≡ at .before .args .area = omega (arith, area-at t (at .loop .k)) in
-    sym (first-is _ _ (at .loop .k) (omega arith) (eq-eqb _ _ met) (λ m h. ne-eqb _ _ (at .loop .inv .1 m h)))
+    sym (first-is _ _ (at .loop .k) (omega arith) (eq-eqb _ _ (c .if1 .taken)) (λ m h. ne-eqb _ _ (at .loop .inv .1 m h)))
 
 add-k : tie.Need-add-k Inv-loop μ-loop
 add-k c = omega arith
@@ -46,12 +45,10 @@ loop-again : tie.Need-loop-again Inv-loop μ-loop
 loop-again c =
     let at = c .before .before .before in
     let t = now (at .before .args .table) in
-    let other : labelArea t (at .loop .k) ≡ at .before .args .area → ⊥ = λ e. omega (arith, area-at t (at .loop .k)) in
-    (omega arith, λ m h. by-cases (ℕ-discrete m (at .loop .k)) (λ e. rw e other) (λ ne. at .loop .inv .1 m (omega arith)))
+    (omega arith, λ m h. by-cases (ℕ-discrete m (at .loop .k)) (λ e. rw e (c .if1 .left)) (λ ne. at .loop .inv .1 m (omega arith)))
 
 returns-2 : tie.Need-returns-2 Inv-loop μ-loop
-unfolding labelIndex
-returns-2 c = sym (first-none _ _ (λ m h. ne-eqb _ _ (c .before .loop .inv .1 m (omega arith))))
+returns-2 c = sym (label-none _ _ (λ m h. c .before .loop .inv .1 m (omega arith)))
 
 pub index-of-spec : {M : Type 1} → statement M
 index-of-spec =

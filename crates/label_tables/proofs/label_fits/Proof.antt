@@ -1,19 +1,9 @@
 -- `label_tables::label_fits` meets its contract: the text begins at the third byte of the entry.
 -- Assumes nothing.
-use Prim.Native.Nat.{ℕ, _+_, _*_}
-use mathlib.Core.Path.{_≡_, refl, ap, fun-ext, _∙_}
+use mathlib.Core.Path.{refl}
 use native.Mathlib.Omega.{arith}
-use denote.Ref.{now}
-use lib.ListN.{getD}
-use Rattle.state.specs.Below.{eachBelow}
-use Rattle.label_tables.specs.Labels.{labelLength, textFits}
-use Rattle.label_tables.proofs.Areas.{area-at}
 use Rattle.label_tables.proofs.label_fits.Statement.{statement}
 use Rattle.label_tables.proofs.label_fits.Tie as tie
-
--- byte i of the text is byte 2 + i of the entry
-text-at : (k i : ℕ) → k * 32 + 2 + i ≡ k * 32 + (2 + i)
-text-at k i = omega arith
 
 mul-size : tie.Need-mul-size
 mul-size c = omega arith
@@ -40,12 +30,7 @@ text-fits-requires : tie.Need-text-fits-requires
 text-fits-requires c κs = omega arith
 
 returns : tie.Need-returns
-returns c =
-    let start = c .before .before .before .before in
-    let t = now (start .args .table) in
-    let k = start .args .k in
-    let text = c .text-fits .ensures ∙ ap (eachBelow 30) (fun-ext (λ i. ap (λ (n : ℕ). textFits (labelLength t k) i (getD t n 0)) (text-at k i))) in
-    rw (area-at t k, text) refl
+returns c = rw (c .text-fits .ensures) refl
 
 pub label-fits-spec : {M : Type 1} → statement M
 label-fits-spec =

@@ -1,13 +1,12 @@
 -- `label_tables::text_fits` meets its contract. The loop's invariant: what fits so far is whether each of the first i bytes does.
 -- Assumes nothing.
-use Prim.Native.Nat.{_+_, _-_, _≤_}
+use Prim.Native.Nat.{_-_, _≤_}
 use mathlib.Core.Path.{_≡_, refl, sym}
 use mathlib.Core.Logic.{⊎-elim}
 use mathlib.Core.Bool.{_&&_}
 use native.Mathlib.Omega.{arith}
 use borrow.Author.Tests.{lt-ltb, le-ltb}
 use denote.Ref.{now}
-use lib.ListN.{getD}
 use Rattle.state.specs.Below.{eachBelow}
 use Rattle.state.proofs.Below.{each-none, each-step, each-end}
 use Rattle.label_tables.specs.Labels.{textFits}
@@ -15,7 +14,7 @@ use Rattle.label_tables.proofs.text_fits.Statement.{statement}
 use Rattle.label_tables.proofs.text_fits.Tie as tie
 
 abbrev Inv-loop : tie.InvT-loop
-Inv-loop table from size fits₀ i₀ fits i = (i ≤ 30) × (fits ≡ eachBelow i (λ n. textFits size n (getD table (from + n) 0)))
+Inv-loop table from size fits₀ i₀ fits i = (i ≤ 30) × (fits ≡ eachBelow i (textFits table from size))
 
 abbrev μ-loop : tie.MeasureT-loop
 μ-loop table from size fits₀ i₀ fits i = 30 - i
@@ -42,7 +41,7 @@ loop-less c = omega arith
 joined : (c : tie.Joined1 Inv-loop μ-loop) →
     let at = c .before .before .before in
     let start = at .before in
-    c .if1 .fits ≡ (at .loop .fits && textFits (start .args .size) (at .loop .i) (getD (now (start .args .table)) (start .args .from + at .loop .i) 0))
+    c .if1 .fits ≡ (at .loop .fits && textFits (now (start .args .table)) (start .args .from) (start .args .size) (at .loop .i))
 joined c = ⊎-elim (λ w. rw (lt-ltb _ _ (w .0 .taken)) (w .1)) (λ w. rw (le-ltb _ _ (w .0 .left)) (w .1)) (c .if1 .came)
 
 loop-again : tie.Need-loop-again Inv-loop μ-loop

@@ -1,4 +1,4 @@
--- `pair_tables::all_ascend` meets its contract. The loop's invariant: what fits so far is whether each of the first k pairs comes before the next.
+-- `pair_tables::all_ascend` meets its contract. The loop's invariant: `ascends` says whether each of the first k pairs comes before the next.
 -- Assumes nothing.
 use Prim.Native.Nat.{ℕ, _+_, _*_, _-_, _≤_}
 use mathlib.Core.Path.{_≡_, refl, sym}
@@ -20,10 +20,10 @@ next-read t k =
     rw (first, second) refl
 
 abbrev Inv-loop : tie.InvT-loop
-Inv-loop table count k₀ fits₀ k fits = (k ≤ count - 1) × (fits ≡ eachBelow k (pairAscends table))
+Inv-loop table count k₀ ascends₀ k ascends = (k ≤ count - 1) × (ascends ≡ eachBelow k (pairAscends table))
 
 abbrev μ-loop : tie.MeasureT-loop
-μ-loop table count k₀ fits₀ k fits = count - k
+μ-loop table count k₀ ascends₀ k ascends = count - k
 
 loop-holds : tie.Need-loop-holds Inv-loop μ-loop
 loop-holds c = (omega arith, sym (each-none _))
@@ -46,23 +46,23 @@ add-next c = omega arith
 shared-slice-read-next : tie.Need-shared-slice-read-next Inv-loop μ-loop
 shared-slice-read-next c = omega arith
 
-mul-fits : tie.Need-mul-fits Inv-loop μ-loop
-mul-fits c = omega arith
+mul-ascends : tie.Need-mul-ascends Inv-loop μ-loop
+mul-ascends c = omega arith
 
-add-fits : tie.Need-add-fits Inv-loop μ-loop
-add-fits c = omega arith
+add-ascends : tie.Need-add-ascends Inv-loop μ-loop
+add-ascends c = omega arith
 
-shared-slice-read-fits : tie.Need-shared-slice-read-fits Inv-loop μ-loop
-shared-slice-read-fits c = omega arith
+shared-slice-read-ascends : tie.Need-shared-slice-read-ascends Inv-loop μ-loop
+shared-slice-read-ascends c = omega arith
 
-mul-fits-2 : tie.Need-mul-fits-2 Inv-loop μ-loop
-mul-fits-2 c = omega arith
+mul-ascends-2 : tie.Need-mul-ascends-2 Inv-loop μ-loop
+mul-ascends-2 c = omega arith
 
-add-fits-2 : tie.Need-add-fits-2 Inv-loop μ-loop
-add-fits-2 c = omega arith
+add-ascends-2 : tie.Need-add-ascends-2 Inv-loop μ-loop
+add-ascends-2 c = omega arith
 
-shared-slice-read-fits-2 : tie.Need-shared-slice-read-fits-2 Inv-loop μ-loop
-shared-slice-read-fits-2 c = omega arith
+shared-slice-read-ascends-2 : tie.Need-shared-slice-read-ascends-2 Inv-loop μ-loop
+shared-slice-read-ascends-2 c = omega arith
 
 add-k : tie.Need-add-k Inv-loop μ-loop
 add-k c = omega arith
@@ -92,12 +92,12 @@ all-ascend-spec =
     mul-next
     add-next
     shared-slice-read-next
-    mul-fits
-    add-fits
-    shared-slice-read-fits
-    mul-fits-2
-    add-fits-2
-    shared-slice-read-fits-2
+    mul-ascends
+    add-ascends
+    shared-slice-read-ascends
+    mul-ascends-2
+    add-ascends-2
+    shared-slice-read-ascends-2
     add-k
     loop-less
     loop-again

@@ -5,19 +5,19 @@ use mathlib.Core.Path.{_≡_, refl, ap, _∙_}
 use native.Mathlib.Omega.{arith}
 use denote.Ref.{now}
 use lib.ListN.{length}
-use Rattle.pair_tables.specs.Pairs.{pairCount, withFirst}
+use Rattle.pair_tables.specs.Pairs.{pairCount, withSome}
 use Rattle.pair_tables.proofs.Pairs.{with-more, with-length}
 use Rattle.pair_tables.proofs.fill.Statement.{statement}
 use Rattle.pair_tables.proofs.fill.Tie as tie
 
 abbrev Inv-loop : tie.InvT-loop
-Inv-loop cells₀ table count k₀ cells k = (k ≤ count) × (cells ≡ withFirst k table cells₀)
+Inv-loop cells₀ table count k₀ cells k = (k ≤ count) × (cells ≡ withSome k table cells₀)
 
 abbrev μ-loop : tie.MeasureT-loop
 μ-loop cells₀ table count k₀ cells k = count - k
 
 loop-holds : tie.Need-loop-holds Inv-loop μ-loop
-unfolding withFirst
+unfolding withSome
 loop-holds c = (omega arith, refl)
 
 mul-put-in : tie.Need-mul-put-in Inv-loop μ-loop

@@ -49,7 +49,7 @@ module _ (file : List ℕ) (a : ℕ) where
       → (bytes ≡ labelText file a) × (place ≡ behind at (textAt file a))
   at-front at n b p =
       let f = front file a (fails n) in
-      (b ∙ ap (λ (k : ℕ). take k (drop (textAt file a) file)) (sym (f .long)), p ∙ ap (behind at) (sym (f .starts)))
+      (b ∙ ap (λ (k : ℕ). take k (drop (textAt file a) file)) (sym (f .1)), p ∙ ap (behind at) (sym (f .0)))
 
 is-accepted-requires : tie.Need-is-accepted-requires
 is-accepted-requires c κs = tt

@@ -6,7 +6,7 @@ use mathlib.Core.Bool.{Bool, false, not, cond}
 use mathlib.Core.List.{List, _∷_, _++_}
 use borrow.Author.Tests.{eq-eqb, ne-eqb}
 use lib.Dec.{eqb}
-use Rattle.state.specs.Checks.{Check, firstMet}
+use Rattle.state.specs.Checks.{Check, _when_, firstMet}
 use Rattle.state.specs.Site.{founding}
 use Rattle.state.specs.declared.State.{State}
 use Rattle.state.proofs.Checks.{met, passed, first-of-two}
@@ -85,7 +85,7 @@ refused-requires-4 c κs = tt
 headed : (c : tie.Else1) → refusalOf (c .before .before .before .args .file .now) ≡ firstMet (later (c .before .before .before .args .file .now))
 headed c = behind-header _ (c .before .header-refusal .ensures) (c .if1 .left)
 
-ranged : (c : tie.Else2) → refusalOf (c .before .before .before .before .before .before .args .file .now) ≡ firstMet (outOfOrder (c .before .before .before .before .before .before .args .file .now) ∷ ofState (c .before .before .before .before .before .before .args .file .now))
+ranged : (c : tie.Else2) → refusalOf (c .before .before .before .before .before .before .args .file .now) ≡ firstMet ((27 when outOfOrder (c .before .before .before .before .before .before .args .file .now)) ∷ ofState (c .before .before .before .before .before .before .args .file .now))
 ranged c = headed (c .before .before .before) ∙ passed _ _ (ap not (sym (c .before .before .tables-fit .ensures)) ∙ c .if2 .left)
 
 ascended : (c : tie.Else3) → refusalOf (c .before .before .before .before .before .before .before .args .file .now) ≡ firstMet (ofState (c .before .before .before .before .before .before .before .args .file .now))

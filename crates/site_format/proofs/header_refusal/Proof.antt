@@ -1,15 +1,14 @@
 -- `site_format::header_refusal` meets its contract: the checks in their order, the first that is met decides.
 -- Assumes nothing.
-use mathlib.Core.Path.{_≡_, refl, sym, ap, _∙_}
-use mathlib.Core.Bool.{Bool, true, false, not}
+use mathlib.Core.Path.{_≡_, sym, ap, _∙_}
+use mathlib.Core.Bool.{false, not}
 use native.Mathlib.Omega.{arith}
 use borrow.Author.Tests.{lt-ltb, le-ltb, eq-eqb, ne-eqb}
 use lib.Dec.{eqb, ltb}
 use lib.ListN.{length}
 use Rattle.state.proofs.Checks.{met, passed, none-met}
 use Rattle.site_format.specs.Format.{field}
-use Rattle.site_format.specs.Header.{countsFit, placedFrom}
-use Rattle.site_format.specs.Format.{tables, headerSize}
+use Rattle.site_format.specs.Header.{countsFit}
 use Rattle.site_format.proofs.header_refusal.Statement.{statement}
 use Rattle.site_format.proofs.header_refusal.Tie as tie
 

@@ -1,7 +1,7 @@
 -- `soundness::are_sound` meets its contract: sound is well-formed and valid.
 -- Assumes nothing.
 use mathlib.Core.Path.{_≡_, refl, sym, _∙_}
-use mathlib.Core.Bool.{Bool, true, false, not}
+use mathlib.Core.Bool.{Bool, true, false}
 use borrow.Author.Tests.{not-true, not-false}
 use denote.Ref.{now}
 use Rattle.soundness.specs.Rows.{objectsReached, wellFormedOf, soundOf}

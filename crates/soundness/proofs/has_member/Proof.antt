@@ -11,7 +11,7 @@ use Rattle.state.proofs.Found.{Found, found-none, found-more}
 use Rattle.state.proofs.Laws.{member-cell}
 use Rattle.soundness.specs.Tests.{someListed}
 use Rattle.soundness.proofs.Laws.{some-decided}
-use Rattle.soundness.proofs.Rows.{member-inside}
+use Rattle.state.proofs.Laws.{member-inside}
 use Rattle.soundness.proofs.has_member.Statement.{statement}
 use Rattle.soundness.proofs.has_member.Tie as tie
 
