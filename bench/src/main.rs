@@ -1,5 +1,5 @@
-//! Times the library beside plain Rust on the same cells, in one run: the access question, and the step. Before that it compares the answers of the two on
-//! random instructions; an argument gives their number.
+//! Times the library beside plain Rust on the same cells, in one run: the access question, and the step; and the reader of site files beside the soundness check.
+//! Before that it compares the answers of the two on random instructions; an argument gives their number.
 
 mod agree;
 mod chance;
@@ -34,12 +34,12 @@ fn time(turns_of: &mut impl FnMut(u32), turns: u32) -> f64 {
 }
 
 /// Times two by turns, so that a slow moment of the machine meets both alike, and prints the least time of each.
-fn race(name: &str, whose: [&str; 2], mut library: impl FnMut(u32), mut plain: impl FnMut(u32)) {
-    let (library_turns, plain_turns) = (turns_for(&mut library), turns_for(&mut plain));
+fn race(name: &str, whose: [&str; 2], mut first: impl FnMut(u32), mut second: impl FnMut(u32)) {
+    let (first_turns, second_turns) = (turns_for(&mut first), turns_for(&mut second));
     let mut best = [f64::INFINITY; 2];
     for _ in 0..ROUNDS {
-        best[0] = best[0].min(time(&mut library, library_turns));
-        best[1] = best[1].min(time(&mut plain, plain_turns));
+        best[0] = best[0].min(time(&mut first, first_turns));
+        best[1] = best[1].min(time(&mut second, second_turns));
     }
     println!("bench {name}: {} {:.2} us, {} {:.2} us, ratio {:.2}", whose[0], best[0], whose[1], best[1], best[0] / best[1]);
 }

@@ -1,4 +1,4 @@
-//! The states that are timed: for the access question its four relations alone, for the step sound states.
+//! The states that are timed: for the access question its four relations alone, for the step and the reader sound states.
 
 use crate::chance::Chance;
 use crate::library;

@@ -1,4 +1,4 @@
-// What a search reads of a relation: the row of a number, whether a row or a column holds a pair, and the relation with each pair turned round.
+// What is read of a relation as a whole: the row of a number, whether a row or a column holds a pair, the numbers that pairs name, and the relation with each pair turned round.
 ghost use mathlib.Core.Path.{_≡_};
 ghost use Prim.Native.Nat.{_-_, _≤_, min};
 ghost use lib.ListN.{length};

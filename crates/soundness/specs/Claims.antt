@@ -1,4 +1,4 @@
--- What is claimed: the tests decide validity and soundness, the founding state is sound, and a sound record is that of its relations. Each claim is a
+-- What is claimed: each test decides its part, and all of them soundness; the founding state is sound, and a sound record is that of its relations. Each claim is a
 -- type, which proofs/Laws.antt inhabits under the claim's name.
 use Prim.Native.Nat.{ℕ}
 use mathlib.Core.Path.{_≡_}

@@ -211,7 +211,7 @@ fn is_shaped<'a>(
         & (exports.len() == 2048)
 }
 
-// Is the record sound but for validity that the eight arrays hold: consistent, acceptable, with at least one area?
+// Is the record that the eight arrays hold sound but for validity: consistent, acceptable, with at least one area?
 pub fn are_well_formed<'a>(
     users: &'a [bool; 32],
     areas: &'a [bool; 32],

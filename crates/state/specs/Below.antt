@@ -1,4 +1,4 @@
--- Tests of the numbers below a bound: whether each meets one, how many do, and which is the first.
+-- Tests of the numbers below a bound: whether each meets one, how many do, whether some does, and which is the first.
 use Prim.Native.Nat.{ℕ, zero, suc, _+_}
 use mathlib.Core.Bool.{Bool, true, false, _&&_, _||_, cond}
 use lib.Dec.{ltb}

@@ -1,4 +1,4 @@
--- "What is refused gets the first number whose condition is met": a table of refusals in the order of its checks, and the number that it gives.
+-- "What is refused gets the first number whose condition is met" (demand 2): a table of refusals in the order of its checks, and the number that it gives.
 use Prim.Native.Nat.{ℕ}
 use mathlib.Core.Bool.{Bool, cond}
 use mathlib.Core.List.{List, [], _∷_}

@@ -2,7 +2,7 @@
 --     Kind, limit, listed, withListed             the three sets
 --     Relation, firstKind, related, withPair      the five relations
 --     owns, defines, inside, imports, exports     the relations by the paper's words
---     founding                                    the founding state
+--     empty, founding                             nothing, and the founding state
 --     recordOf                                    a record from its parts
 --     Shaped                                      every set and relation has its number of cells
 use Prim.Native.Nat.{ℕ, _*_}
