@@ -31,6 +31,10 @@ secondOf t k = getD t (k * pairSize + 1) 0
 abbrev pub pairFits : (bound : ℕ) → List ℕ → ℕ → Bool
 pairFits n t k = ltb (firstOf t k) n && ltb (secondOf t k) (limit area)
 
+-- the same of pair i behind pair k
+abbrev pub pairFitsFrom : (bound : ℕ) → List ℕ → (k i : ℕ) → Bool
+pairFitsFrom n t k i = pairFits n t (k + i)
+
 unfoldable pub pairsFit : (bound : ℕ) → List ℕ → Bool
 pairsFit n t = eachBelow (pairCount t) (pairFits n t)
 

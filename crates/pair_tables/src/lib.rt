@@ -1,21 +1,45 @@
 // A table of pairs, as a slice of its own bytes: whether it is in range and ascending, and the relation that it holds.
 ghost use mathlib.Core.Path.{_≡_};
-ghost use Rattle.pair_tables.specs.Pairs.{pairsFit, pairsAscend, withPairs};
+ghost use Prim.Native.Nat.{_+_, _*_, _≤_};
+ghost use lib.ListN.{length};
+ghost use Rattle.state.specs.Below.{eachBelow};
+ghost use Rattle.pair_tables.specs.Pairs.{pairFitsFrom, pairsFit, earlier, pairsAscend, withPairs};
 use state::State;
 
-// Is the first number of each pair below the limit, and the second that of an area?
-pub fn all_fit(table: &[u8], limit: u8) -> bool
-    ensures { λ r. ⌜ r ≡ pairsFit limit (now (table .entry)) ⌝ }
+// Is the first number below the limit and the second that of an area, in each of so many pairs from pair k on?
+fn run_fits(table: &[u8], k: usize, count: usize, limit: u8) -> bool
+    requires { ⌜ (k + count) * 2 ≤ length (now table) ⌝ }
+    ensures { λ r. ⌜ r ≡ eachBelow count (pairFitsFrom limit (now (table .entry)) k) ⌝ }
 {
-    let count = table.len() / 2;
     let mut fits = true;
-    for k in 0..count {
-        fits = fits & ((table[k * 2] < limit) & (table[k * 2 + 1] < State::AREAS));
+    for i in 0..count {
+        fits = fits & ((table[(k + i) * 2] < limit) & (table[(k + i) * 2 + 1] < State::AREAS));
     }
     fits
 }
 
-// Does each pair come before the next, by first number and then by second?
+// Is the first number of each pair below the limit, and the second that of an area? Eight pairs at a time, so that the compiler compares sixteen bytes at once.
+pub fn all_fit(table: &[u8], limit: u8) -> bool
+    ensures { λ r. ⌜ r ≡ pairsFit limit (now (table .entry)) ⌝ }
+{
+    let count = table.len() / 2;
+    let mut k: usize = 0;
+    let mut fits = true;
+    while k + 8 <= count {
+        fits = fits & run_fits(table, k, 8, limit);
+        k = k + 8;
+    }
+    fits & run_fits(table, k, count - k, limit)
+}
+
+// Does (i, j) come before (m, n), by first number and then by second?
+fn is_earlier(i: u8, j: u8, m: u8, n: u8) -> bool
+    ensures { λ r. ⌜ r ≡ earlier i j m n ⌝ }
+{
+    i as u16 * 256 + (j as u16) < m as u16 * 256 + n as u16
+}
+
+// Does each pair come before the next?
 pub fn all_ascend(table: &[u8]) -> bool
     ensures { λ r. ⌜ r ≡ pairsAscend (now (table .entry)) ⌝ }
 {
@@ -23,10 +47,13 @@ pub fn all_ascend(table: &[u8]) -> bool
     let mut k: usize = 0;
     let mut ascends = true;
     while k + 1 < count {
-        let first = table[k * 2];
-        let next = table[k * 2 + 2];
         ascends = ascends
-            & ((first < next) | ((first == next) & (table[k * 2 + 1] < table[k * 2 + 3])));
+            & is_earlier(
+                table[k * 2],
+                table[k * 2 + 1],
+                table[k * 2 + 2],
+                table[k * 2 + 3],
+            );
         k = k + 1;
     }
     ascends

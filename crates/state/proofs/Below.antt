@@ -1,5 +1,6 @@
 -- `eachBelow`, `countBelow`, `someBelow` and `firstBelow`: one number more, for a loop, and what they say.
 --     each-none, each-more, each-goes     before the first turn, one turn more, and one more that meets the test
+--     each-add                            so many numbers more
 --     each-at, each-by                    each number meets the test
 --     each-stop, each-done                a number that does not, and none left
 --     count-none, count-more              before the first turn, and one turn more
@@ -11,8 +12,8 @@
 use Prim.Native.Nat.{ℕ, zero, suc, _+_, _≤_, _<_}
 use mathlib.Core.Path.{_≡_, refl, sym, ap, ap₂, subst, _∙_}
 use mathlib.Core.Logic.{_⊎_, inl, inr}
-use mathlib.Core.Bool.{Bool, true, false, _&&_, _||_, cond}
-use native.Mathlib.Nat.{not-suc-le-zero}
+use mathlib.Core.Bool.{Bool, true, false, _&&_, _||_, cond, and-true, and-assoc}
+use native.Mathlib.Nat.{not-suc-le-zero, add-zero, add-suc}
 use native.Mathlib.Numerals.{add-one}
 use native.Mathlib.Omega.{arith}
 use native.Mathlib.Decide.{ℕ-discrete, decLt}
@@ -29,6 +30,15 @@ module _ (f : ℕ → Bool) where
   pub each-more : (n : ℕ) → eachBelow (n + 1) f ≡ eachBelow n f && f n
   unfolding eachBelow
   each-more n = rw (add-one n) refl
+
+  -- so many numbers more
+  pub each-add : (n m : ℕ) → eachBelow (n + m) f ≡ (eachBelow n f && eachBelow m (λ i. f (n + i)))
+  unfolding eachBelow
+  each-add n zero = ap (λ (k : ℕ). eachBelow k f) (add-zero n) ∙ sym (and-true (eachBelow n f))
+  each-add n (suc m) =
+      ap (λ (k : ℕ). eachBelow k f) (add-suc n m)
+      ∙ ap (λ (b : Bool). b && f (n + m)) (each-add n m)
+      ∙ and-assoc (eachBelow n f) (eachBelow m (λ i. f (n + i))) (f (n + m))
 
   -- a loop that carries the test along
   pub each-step : (n : ℕ) (fits : Bool) (new : Bool) → fits ≡ eachBelow n f → new ≡ f n → fits && new ≡ eachBelow (n + 1) f

@@ -1,7 +1,7 @@
 -- `pair_tables::all_ascend` meets its contract. The loop's invariant: `ascends` says whether each of the first k pairs comes before the next.
 -- Assumes nothing.
 use Prim.Native.Nat.{ℕ, _+_, _*_, _-_, _≤_}
-use mathlib.Core.Path.{_≡_, refl, sym}
+use mathlib.Core.Path.{_≡_, refl, sym, _∙_}
 use mathlib.Core.List.{List}
 use native.Mathlib.Omega.{arith}
 use denote.Ref.{now}
@@ -31,38 +31,41 @@ loop-holds c = (omega arith, sym (each-none _))
 add-loop : tie.Need-add-loop Inv-loop μ-loop
 add-loop c = omega arith
 
-mul-first : tie.Need-mul-first Inv-loop μ-loop
-mul-first c = omega arith
+mul-is-earlier : tie.Need-mul-is-earlier Inv-loop μ-loop
+mul-is-earlier c = omega arith
 
-shared-slice-read-first : tie.Need-shared-slice-read-first Inv-loop μ-loop
-shared-slice-read-first c = omega arith
+shared-slice-read-is-earlier : tie.Need-shared-slice-read-is-earlier Inv-loop μ-loop
+shared-slice-read-is-earlier c = omega arith
 
-mul-next : tie.Need-mul-next Inv-loop μ-loop
-mul-next c = omega arith
+mul-is-earlier-2 : tie.Need-mul-is-earlier-2 Inv-loop μ-loop
+mul-is-earlier-2 c = omega arith
 
-add-next : tie.Need-add-next Inv-loop μ-loop
-add-next c = omega arith
+add-is-earlier : tie.Need-add-is-earlier Inv-loop μ-loop
+add-is-earlier c = omega arith
 
-shared-slice-read-next : tie.Need-shared-slice-read-next Inv-loop μ-loop
-shared-slice-read-next c = omega arith
+shared-slice-read-is-earlier-2 : tie.Need-shared-slice-read-is-earlier-2 Inv-loop μ-loop
+shared-slice-read-is-earlier-2 c = omega arith
 
-mul-ascends : tie.Need-mul-ascends Inv-loop μ-loop
-mul-ascends c = omega arith
+mul-is-earlier-3 : tie.Need-mul-is-earlier-3 Inv-loop μ-loop
+mul-is-earlier-3 c = omega arith
 
-add-ascends : tie.Need-add-ascends Inv-loop μ-loop
-add-ascends c = omega arith
+add-is-earlier-2 : tie.Need-add-is-earlier-2 Inv-loop μ-loop
+add-is-earlier-2 c = omega arith
 
-shared-slice-read-ascends : tie.Need-shared-slice-read-ascends Inv-loop μ-loop
-shared-slice-read-ascends c = omega arith
+shared-slice-read-is-earlier-3 : tie.Need-shared-slice-read-is-earlier-3 Inv-loop μ-loop
+shared-slice-read-is-earlier-3 c = omega arith
 
-mul-ascends-2 : tie.Need-mul-ascends-2 Inv-loop μ-loop
-mul-ascends-2 c = omega arith
+mul-is-earlier-4 : tie.Need-mul-is-earlier-4 Inv-loop μ-loop
+mul-is-earlier-4 c = omega arith
 
-add-ascends-2 : tie.Need-add-ascends-2 Inv-loop μ-loop
-add-ascends-2 c = omega arith
+add-is-earlier-3 : tie.Need-add-is-earlier-3 Inv-loop μ-loop
+add-is-earlier-3 c = omega arith
 
-shared-slice-read-ascends-2 : tie.Need-shared-slice-read-ascends-2 Inv-loop μ-loop
-shared-slice-read-ascends-2 c = omega arith
+shared-slice-read-is-earlier-4 : tie.Need-shared-slice-read-is-earlier-4 Inv-loop μ-loop
+shared-slice-read-is-earlier-4 c = omega arith
+
+is-earlier-requires : tie.Need-is-earlier-requires Inv-loop μ-loop
+is-earlier-requires c κs = tt
 
 add-k : tie.Need-add-k Inv-loop μ-loop
 add-k c = omega arith
@@ -72,8 +75,8 @@ loop-less c = omega arith
 
 loop-again : tie.Need-loop-again Inv-loop μ-loop
 loop-again c =
-    let at = c .before .before .before .before .before in
-    (omega arith, each-step _ _ _ _ (at .loop .inv .1) (next-read (now (at .before .args .table)) (at .loop .k)))
+    let at = c .before .before .before .before .before .before in
+    (omega arith, each-step _ _ _ _ (at .loop .inv .1) (c .is-earlier .ensures ∙ next-read (now (at .before .before .args .table)) (at .loop .k)))
 
 returns : tie.Need-returns Inv-loop μ-loop
 unfolding pairsAscend
@@ -87,17 +90,18 @@ all-ascend-spec =
     μ-loop
     loop-holds
     add-loop
-    mul-first
-    shared-slice-read-first
-    mul-next
-    add-next
-    shared-slice-read-next
-    mul-ascends
-    add-ascends
-    shared-slice-read-ascends
-    mul-ascends-2
-    add-ascends-2
-    shared-slice-read-ascends-2
+    mul-is-earlier
+    shared-slice-read-is-earlier
+    mul-is-earlier-2
+    add-is-earlier
+    shared-slice-read-is-earlier-2
+    mul-is-earlier-3
+    add-is-earlier-2
+    shared-slice-read-is-earlier-3
+    mul-is-earlier-4
+    add-is-earlier-3
+    shared-slice-read-is-earlier-4
+    is-earlier-requires
     add-k
     loop-less
     loop-again

@@ -1,37 +1,36 @@
 -- `pair_tables::all_fit` meets its contract. The loop's invariant: what fits so far is whether each of the first k pairs does.
 -- Assumes nothing.
-use Prim.Native.Nat.{_-_, _≤_}
-use mathlib.Core.Path.{_≡_, refl, sym}
+use Prim.Native.Nat.{ℕ, _+_, _-_, _≤_}
+use mathlib.Core.Path.{_≡_, sym, ap, ap₂, _∙_}
+use mathlib.Core.Bool.{Bool, _&&_}
+use mathlib.Core.List.{List}
 use native.Mathlib.Omega.{arith}
+use denote.Ref.{now}
 use Rattle.state.specs.Below.{eachBelow}
-use Rattle.state.proofs.Below.{each-none, each-step, each-end}
-use Rattle.pair_tables.specs.Pairs.{pairFits, pairsFit}
+use Rattle.state.proofs.Below.{each-none, each-add}
+use Rattle.pair_tables.specs.Pairs.{pairCount, pairFits, pairFitsFrom, pairsFit}
 use Rattle.pair_tables.proofs.all_fit.Statement.{statement}
 use Rattle.pair_tables.proofs.all_fit.Tie as tie
 
+-- so many pairs more
+more : (bound : ℕ) (t : List ℕ) (k n : ℕ) (fits new : Bool) → fits ≡ eachBelow k (pairFits bound t) → new ≡ eachBelow n (pairFitsFrom bound t k)
+    → fits && new ≡ eachBelow (k + n) (pairFits bound t)
+more bound t k n fits new e h = ap₂ _&&_ e h ∙ sym (each-add (pairFits bound t) k n)
+
 abbrev Inv-loop : tie.InvT-loop
-Inv-loop table limit count fits₀ k₀ fits k = (k ≤ count) × (fits ≡ eachBelow k (pairFits limit table))
+Inv-loop table limit count k₀ fits₀ k fits = (k ≤ count) × (fits ≡ eachBelow k (pairFits limit table))
 
 abbrev μ-loop : tie.MeasureT-loop
-μ-loop table limit count fits₀ k₀ fits k = count - k
+μ-loop table limit count k₀ fits₀ k fits = count - k
 
 loop-holds : tie.Need-loop-holds Inv-loop μ-loop
 loop-holds c = (omega arith, sym (each-none _))
 
-mul-fits : tie.Need-mul-fits Inv-loop μ-loop
-mul-fits c = omega arith
+add-loop : tie.Need-add-loop Inv-loop μ-loop
+add-loop c = omega arith
 
-shared-slice-read-fits : tie.Need-shared-slice-read-fits Inv-loop μ-loop
-shared-slice-read-fits c = omega arith
-
-mul-fits-2 : tie.Need-mul-fits-2 Inv-loop μ-loop
-mul-fits-2 c = omega arith
-
-add-fits : tie.Need-add-fits Inv-loop μ-loop
-add-fits c = omega arith
-
-shared-slice-read-fits-2 : tie.Need-shared-slice-read-fits-2 Inv-loop μ-loop
-shared-slice-read-fits-2 c = omega arith
+run-fits-requires : tie.Need-run-fits-requires Inv-loop μ-loop
+run-fits-requires c κs = omega arith
 
 add-k : tie.Need-add-k Inv-loop μ-loop
 add-k c = omega arith
@@ -40,11 +39,23 @@ loop-less : tie.Need-loop-less Inv-loop μ-loop
 loop-less c = omega arith
 
 loop-again : tie.Need-loop-again Inv-loop μ-loop
-loop-again c = (omega arith, each-step _ _ _ _ (c .before .before .before .loop .inv .1) refl)
+loop-again c =
+    let x = c .before .before .before .before .args in
+    (omega arith, more (x .limit) (now (x .table)) _ 8 _ _ (c .before .before .loop .inv .1) (c .run-fits .ensures))
+
+sub-run-fits : tie.Need-sub-run-fits Inv-loop μ-loop
+sub-run-fits c = omega arith
+
+run-fits-requires-2 : tie.Need-run-fits-requires-2 Inv-loop μ-loop
+run-fits-requires-2 c κs = omega arith
 
 returns : tie.Need-returns Inv-loop μ-loop
 unfolding pairsFit
-returns c = each-end _ _ _ _ (omega arith) (c .before .loop .inv .1)
+returns c =
+    let x = c .before .before .before .before .args in
+    let k = c .before .before .loop .k in
+    let all : k + (pairCount (now (x .table)) - k) ≡ pairCount (now (x .table)) = omega arith in
+    more (x .limit) (now (x .table)) k _ _ _ (c .before .before .loop .inv .1) (c .run-fits2 .ensures) ∙ ap (λ (n : ℕ). eachBelow n (pairFits (x .limit) (now (x .table)))) all
 
 pub all-fit-spec : {M : Type 1} → statement M
 all-fit-spec =
@@ -53,12 +64,11 @@ all-fit-spec =
     Inv-loop
     μ-loop
     loop-holds
-    mul-fits
-    shared-slice-read-fits
-    mul-fits-2
-    add-fits
-    shared-slice-read-fits-2
+    add-loop
+    run-fits-requires
     add-k
     loop-less
     loop-again
+    sub-run-fits
+    run-fits-requires-2
     returns)
