@@ -7,10 +7,10 @@ use Rattle.files.proofs.obey_all.Statement.{statement}
 use Rattle.files.proofs.obey_all.Tie as tie
 
 abbrev Inv-loop : tie.InvT-loop
-Inv-loop lines question from₀ from = from ≤ length lines
+Inv-loop lines from₀ from = from ≤ length lines
 
 abbrev μ-loop : tie.MeasureT-loop
-μ-loop lines question from₀ from = length lines - from
+μ-loop lines from₀ from = length lines - from
 
 loop-holds : tie.Need-loop-holds Inv-loop μ-loop
 loop-holds c = omega arith
