@@ -75,11 +75,11 @@ pub fn all_listed<'a>(areas: &'a [bool], table: &'a [u8]) -> bool
 pub fn index_of(table: &[u8], area: u8) -> usize
     ensures { λ r. ⌜ r ≡ labelIndex (now (table .entry)) area ⌝ }
 {
-    let count = table.len() / 32;
-    for k in 0..count {
+    let entries = table.len() / 32;
+    for k in 0..entries {
         if table[k * 32] == area {
             return k;
         }
     }
-    count
+    entries
 }

@@ -12,10 +12,10 @@ use Rattle.state.proofs.Bools.{is-true, fails, so-not, so, neither}
 use Rattle.state.proofs.Checks.{passed, none-met, Passed, all-passed}
 use Rattle.soundness.specs.Tests.{isConsistent, isValid}
 use Rattle.label_tables.specs.Labels.{labelsListed}
-use Rattle.site_format.specs.Format.{headerSize, Content, labels, rowOf, tables, eachTable, field, countIn, part, inRange, ascending}
+use Rattle.site_format.specs.Format.{headerSize, Content, labels, rowOf, tables, field, countIn, part, inRange, ascending}
 use Rattle.site_format.proofs.Tables.{test-of, by-test}
 use Rattle.site_format.specs.Header.{countsFit, placedFrom}
-use Rattle.site_file.specs.Reading.{stateIn, noOwner, definedTwice, checks, refusalOf, readOf}
+use Rattle.site_file.specs.Reading.{tablesFit, tablesAscend, stateIn, noOwner, definedTwice, checks, refusalOf, readOf}
 
 -- ---- what the checks say
 pub record Checked (file : List ℕ) : Type 0 where
@@ -58,8 +58,8 @@ checked file e =
       length-stated = eqb→eq (field file 2) (length file) (so (eqb (field file 2) (length file)) (p .1 .1 .0));
       counts-fit = λ c. nltb→le (rowOf c .most) (countIn file c) (test-of (λ x. not (ltb (rowOf x .most) (countIn file x))) (so (countsFit file) (p .1 .1 .1 .0)) c);
       placed = so (placedFrom file tables headerSize) (p .1 .1 .1 .1 .0);
-      in-range = test-of (λ x. inRange x (part file x)) (so (eachTable tables (λ x. inRange x (part file x))) (p .1 .1 .1 .1 .1 .0));
-      ascends = test-of (λ x. ascending x (part file x)) (so (eachTable tables (λ x. ascending x (part file x))) (p .1 .1 .1 .1 .1 .1 .0));
+      in-range = test-of (λ x. inRange x (part file x)) (so (tablesFit file) (p .1 .1 .1 .1 .1 .0));
+      ascends = test-of (λ x. ascending x (part file x)) (so (tablesAscend file) (p .1 .1 .1 .1 .1 .1 .0));
       owned = q .0;
       named = so (isConsistent (stateIn file)) (q .1);
       labelled = so (labelsListed (stateIn file .areas) (part file labels)) (q .2);
@@ -81,8 +81,8 @@ accepted file k =
     ∙ passed _ _ (ap not (eq-eqb _ _ (k .length-stated)))
     ∙ passed _ _ (hold (countsFit file) (by-test (λ x. not (ltb (rowOf x .most) (countIn file x))) tables (λ c. not-above (rowOf c .most) (countIn file c) (k .counts-fit c))))
     ∙ passed _ _ (hold (placedFrom file tables headerSize) (k .placed))
-    ∙ passed _ _ (hold (eachTable tables (λ x. inRange x (part file x))) (by-test (λ x. inRange x (part file x)) tables (k .in-range)))
-    ∙ passed _ _ (hold (eachTable tables (λ x. ascending x (part file x))) (by-test (λ x. ascending x (part file x)) tables (k .ascends)))
+    ∙ passed _ _ (hold (tablesFit file) (by-test (λ x. inRange x (part file x)) tables (k .in-range)))
+    ∙ passed _ _ (hold (tablesAscend file) (by-test (λ x. ascending x (part file x)) tables (k .ascends)))
     ∙ passed _ _ (joined (noOwner (stateIn file)) (not (isConsistent (stateIn file))) (not (labelsListed (stateIn file .areas) (part file labels))) (definedTwice (stateIn file)) (k .owned, hold (isConsistent (stateIn file)) (k .named), hold (labelsListed (stateIn file .areas) (part file labels)) (k .labelled), k .defined-once))
     ∙ passed _ _ (hold (isValid (stateIn file)) (k .valid))
     ∙ none-met

@@ -32,12 +32,18 @@ stateIn file = stateBy (relationIn file)
 
 -- ---- the conditions, and the table of refusals
 -- 26: "a number, length, text byte or filler byte outside its range"
+abbrev pub tablesFit : (file : List ℕ) → Bool
+tablesFit file = eachTable tables (λ c. inRange c (part file c))
+
 abbrev pub outOfRange : (file : List ℕ) → Bool
-outOfRange file = not (eachTable tables (λ c. inRange c (part file c)))
+outOfRange file = not (tablesFit file)
 
 -- 27: "a table not strictly ascending by first byte, then second (labels by area)"
+abbrev pub tablesAscend : (file : List ℕ) → Bool
+tablesAscend file = eachTable tables (λ c. ascending c (part file c))
+
 abbrev pub outOfOrder : (file : List ℕ) → Bool
-outOfOrder file = not (eachTable tables (λ c. ascending c (part file c)))
+outOfOrder file = not (tablesAscend file)
 
 -- 28: "no owner pair; an unlisted area or object named; an object defined twice"
 abbrev pub noOwner : State → Bool

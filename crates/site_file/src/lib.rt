@@ -6,8 +6,8 @@ ghost use denote.Ref.{ptr};
 ghost use Rattle.state.specs.Checks.{firstMet};
 ghost use Rattle.state.specs.Site.{founding};
 ghost use Rattle.soundness.specs.Sound.{Sound};
-ghost use Rattle.site_format.specs.Format.{labels, tables, eachTable, part, inRange, ascending, behind};
-ghost use Rattle.site_file.specs.Reading.{stateIn, stateChecks, refusalOf, readingOf, readOf};
+ghost use Rattle.site_format.specs.Format.{labels, part, behind};
+ghost use Rattle.site_file.specs.Reading.{tablesFit, tablesAscend, stateIn, stateChecks, refusalOf, readingOf, readOf};
 ghost use Rattle.site_file.specs.Finder.{textAt, labelText};
 use state::State;
 
@@ -19,7 +19,7 @@ pub struct Reading {
 
 // Is every number, length, text byte and filler byte in its range?
 fn tables_fit(file: &[u8]) -> bool
-    ensures { λ r. ⌜ r ≡ eachTable tables (λ c. inRange c (part (now (file .entry)) c)) ⌝ }
+    ensures { λ r. ⌜ r ≡ tablesFit (now (file .entry)) ⌝ }
 {
     pair_tables::all_fit(site_format::owners(file), State::USERS)
         & pair_tables::all_fit(site_format::definitions(file), State::OBJECTS)
@@ -31,7 +31,7 @@ fn tables_fit(file: &[u8]) -> bool
 
 // Is every table strictly ascending?
 fn tables_ascend(file: &[u8]) -> bool
-    ensures { λ r. ⌜ r ≡ eachTable tables (λ c. ascending c (part (now (file .entry)) c)) ⌝ }
+    ensures { λ r. ⌜ r ≡ tablesAscend (now (file .entry)) ⌝ }
 {
     pair_tables::all_ascend(site_format::owners(file))
         & pair_tables::all_ascend(site_format::definitions(file))

@@ -248,10 +248,7 @@ pub fn are_well_formed<'a>(
     ) {
         return false;
     }
-    if !is_acceptable(*users, *areas, *objects, owners, definitions) {
-        return false;
-    }
-    has_member(areas)
+    is_acceptable(*users, *areas, *objects, owners, definitions) & has_member(areas)
 }
 
 // Is the record sound that the eight arrays hold? For whoever has the record and lends it, so that it is not copied.

@@ -1,7 +1,7 @@
 -- `soundness::are_well_formed` meets its contract: the parts in the test's order, the first that fails decides.
 -- Assumes nothing.
-use mathlib.Core.Path.{_≡_, refl, sym, _∙_}
-use mathlib.Core.Bool.{Bool, true, false, not}
+use mathlib.Core.Path.{_≡_, refl, sym, ap₂, _∙_}
+use mathlib.Core.Bool.{Bool, true, false, _&&_, not}
 use borrow.Author.Tests.{not-true, not-false}
 use denote.Ref.{now}
 use Rattle.soundness.specs.Tests.{consistentOf, acceptableOf, someListed}
@@ -41,22 +41,15 @@ inconsistent : (c : tie.Start) → shape c ≡ true → consistency c ≡ false 
 unfolding wellFormedOf
 inconsistent c a b = rw (a, b) refl
 
-unacceptable : (c : tie.Start) → shape c ≡ true → consistency c ≡ true → acceptability c ≡ false → false ≡ whole c
+rest : (c : tie.Start) → shape c ≡ true → consistency c ≡ true → acceptability c && an-area c ≡ whole c
 unfolding wellFormedOf
-unacceptable c a b d = rw (a, b, d) refl
-
-if-an-area : (c : tie.Start) → shape c ≡ true → consistency c ≡ true → acceptability c ≡ true → an-area c ≡ whole c
-unfolding wellFormedOf
-if-an-area c a b d = rw (a, b, d) refl
+rest c a b = rw (a, b) refl
 
 shaped : (c : tie.Else1) → shape (c .before .before .before .before .before .before .before .before .before .before) ≡ true
 shaped c = so _ (c .before .is-shaped .ensures) (c .if1 .left)
 
 consistent : (c : tie.Else2) → consistency (c .before .before .before .before .before .before .before .before .before .before .before .before .before .before .before .before .before .before .before .before) ≡ true
 consistent c = so _ (c .before .is-consistent .ensures) (c .if2 .left)
-
-acceptable : (c : tie.Else3) → acceptability (c .before .before .before .before .before .before .before .before .before .before .before .before .before .before .before .before .before .before .before .before .before .before .before .before .before .before) ≡ true
-acceptable c = so _ (c .before .is-acceptable .ensures) (c .if3 .left)
 
 is-shaped-requires : tie.Need-is-shaped-requires
 is-shaped-requires c κs = tt
@@ -80,12 +73,9 @@ returns-2 : tie.Need-returns-2
 returns-2 c = inconsistent (c .before .before .before .before .before .before .before .before .before .before .before .before .before .before .before .before .before .before .before .before) (shaped (c .before .before .before .before .before .before .before .before .before .before)) (no _ (c .before .is-consistent .ensures) (c .if2 .taken))
 
 returns-3 : tie.Need-returns-3
-returns-3 c = unacceptable (c .before .before .before .before .before .before .before .before .before .before .before .before .before .before .before .before .before .before .before .before .before .before .before .before .before .before) (shaped (c .before .before .before .before .before .before .before .before .before .before .before .before .before .before .before .before)) (consistent (c .before .before .before .before .before .before)) (no _ (c .before .is-acceptable .ensures) (c .if3 .taken))
-
-returns-4 : tie.Need-returns-4
-returns-4 c =
-    c .has-member .ensures
-    ∙ if-an-area (c .before .before .before .before .before .before .before .before .before .before .before .before .before .before .before .before .before .before .before .before .before .before .before .before .before .before .before .before) (shaped (c .before .before .before .before .before .before .before .before .before .before .before .before .before .before .before .before .before .before)) (consistent (c .before .before .before .before .before .before .before .before)) (acceptable (c .before .before))
+returns-3 c =
+    ap₂ _&&_ (c .before .before .is-acceptable .ensures) (c .has-member .ensures)
+    ∙ rest (c .before .before .before .before .before .before .before .before .before .before .before .before .before .before .before .before .before .before .before .before .before .before .before .before .before .before .before) (shaped (c .before .before .before .before .before .before .before .before .before .before .before .before .before .before .before .before .before)) (consistent (c .before .before .before .before .before .before .before))
 
 pub are-well-formed-spec : {M : Type 1} → statement M
 are-well-formed-spec =
@@ -96,6 +86,5 @@ are-well-formed-spec =
     is-consistent-requires
     returns-2
     is-acceptable-requires
-    returns-3
     has-member-requires
-    returns-4)
+    returns-3)
