@@ -18,24 +18,9 @@ fn print_number(n: u64) {
     io::print_decimal(STDOUT_FILENO, n);
 }
 
-// What a cell adds to a count.
-fn weight(cell: bool) -> u64
-    ensures { λ r. ⌜ r ≤ 1 ⌝ }
-{
-    if cell { 1 } else { 0 }
-}
-
-fn count(cells: &[bool]) -> u64 {
-    let mut n: u64 = 0;
-    for i in 0..cells.len() {
-        n = n + weight(cells[i]);
-    }
-    n
-}
-
 fn print_count(cells: &[bool]) {
     print(b" ");
-    print_number(count(cells));
+    print_number(state::count(cells) as u64);
 }
 
 // The refusal of a file, 0 for none, and the counts of the state that comes with it.

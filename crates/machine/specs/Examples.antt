@@ -3,19 +3,14 @@
 use Prim.Native.Nat.{ℕ}
 use mathlib.Core.Path.{_≡_}
 use mathlib.Core.List.{List, [], _∷_, _++_}
-use Rattle.state.specs.Site.{founding}
-use Rattle.state.specs.Walk.{count}
+use Rattle.state.specs.Site.{founding, counts}
 use Rattle.state.specs.declared.State.{State}
 use Rattle.instructions.specs.Instructions.{Bytes, fourBytes}
 use Rattle.machine.specs.Step.{stepOf}
 
--- the state line: "the counts of users, areas, objects, owner, structure, import and export pairs"
-abbrev pub stateLine : State → List ℕ
-stateLine s = count (s .users) ∷ count (s .areas) ∷ count (s .objects) ∷ count (s .owners) ∷ count (s .structure) ∷ count (s .imports) ∷ count (s .exports) ∷ []
-
--- the number of each instruction, 0 or its refusal, and the state line at the end
+-- the number of each instruction, 0 or its refusal, and the counts of the state line at the end
 unfoldable pub printed : State → List Bytes → List ℕ
-printed s [] = stateLine s
+printed s [] = counts s
 printed s (bytes ∷ rest) = stepOf s bytes .refusal ∷ printed (stepOf s bytes .state) rest
 
 -- instructions from F, the number of each, and the state line

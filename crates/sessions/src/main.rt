@@ -1,6 +1,5 @@
 // Runs instructions and questions from the founding state and prints each answer: the examples and the session of document 01, the places where a careful
 // reader could go two ways, and records that are not sound.
-ghost use Prim.Native.Nat.{_≤_};
 use access::Answer;
 use libc::STDOUT_FILENO;
 use machine::Reply;
@@ -463,43 +462,21 @@ fn print_reply(area: u8, object: u8, reply: Reply) {
     print(b"\n");
 }
 
-// What a cell adds to a count.
-fn weight(cell: bool) -> u64
-    ensures { λ r. ⌜ r ≤ 1 ⌝ }
-{
-    if cell { 1 } else { 0 }
-}
-
-fn count(cells: &[bool]) -> u64 {
-    let mut n: u64 = 0;
-    for i in 0..cells.len() {
-        n = n + weight(cells[i]);
-    }
-    n
-}
-
-fn print_count(cells: &[bool]) {
+fn print_count(n: usize) {
     print(b" ");
-    print_number(count(cells));
+    print_number(n as u64);
 }
 
-fn print_state<'a>(
-    users: &'a [bool],
-    areas: &'a [bool],
-    objects: &'a [bool],
-    owners: &'a [bool],
-    structure: &'a [bool],
-    imports: &'a [bool],
-    exports: &'a [bool],
-) {
+fn print_state(s: State) {
+    let counts = state::counts(s);
     print(b"  state");
-    print_count(users);
-    print_count(areas);
-    print_count(objects);
-    print_count(owners);
-    print_count(structure);
-    print_count(imports);
-    print_count(exports);
+    print_count(counts[0]);
+    print_count(counts[1]);
+    print_count(counts[2]);
+    print_count(counts[3]);
+    print_count(counts[4]);
+    print_count(counts[5]);
+    print_count(counts[6]);
     print(b"\n");
 }
 
@@ -586,15 +563,7 @@ fn after(s: State, command: u64) -> State {
             s
         }
         STATE => {
-            print_state(
-                &s.users,
-                &s.areas,
-                &s.objects,
-                &s.owners,
-                &s.structure,
-                &s.imports,
-                &s.exports,
-            );
+            print_state(s);
             s
         }
         CHAIN => {

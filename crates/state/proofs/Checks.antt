@@ -2,6 +2,7 @@
 --     met, passed, none-met   the first check decides, or the rest do; or there is none
 --     first-of-two            of two tables in a row, the second counts where none of the first is met
 --     Passed, all-passed      no check is met
+--     eachNumber, first-meets a test that every number of the table meets
 -- Assumes nothing.
 use Prim.Native.Nat.{ℕ}
 use mathlib.Core.Path.{_≡_, refl, sym, ap, _∙_}
@@ -23,10 +24,24 @@ pub none-met : firstMet [] ≡ 0
 unfolding firstMet
 none-met = refl
 
+-- each check's number meets a test
+abbrev pub eachNumber : (ℕ → Bool) → List Check → Bool
+eachNumber test [] = true
+eachNumber test (c ∷ rest) = test (c .number) && eachNumber test rest
+
+-- and so does the number that the table gives, if 0 does
+pub first-meets : (test : ℕ → Bool) (l : List Check) → T (test 0) → T (eachNumber test l) → T (test (firstMet l))
+unfolding firstMet
+first-meets test [] z n = z
+first-meets test (c ∷ rest) z n = go (c .met) (first-meets test rest z (and-right (test (c .number)) (eachNumber test rest) n))
+  where
+    go : (b : Bool) → T (test (firstMet rest)) → T (test (cond b (c .number) (firstMet rest)))
+    go true later = and-left (test (c .number)) (eachNumber test rest) n
+    go false later = later
+
 -- no check has the number 0, which stands for 'none is met'
 abbrev pub numbered : List Check → Bool
-numbered [] = true
-numbered (c ∷ rest) = not (eqb (c .number) 0) && numbered rest
+numbered l = eachNumber (λ n. not (eqb n 0)) l
 
 abbrev pub Passed : List Check → Type 0
 Passed [] = Unit

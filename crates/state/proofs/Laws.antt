@@ -12,12 +12,12 @@ use lib.Dec.{T, eqb}
 use lib.ListN.{length, getD}
 use lib.Seq.{ext-getD}
 use Rattle.state.specs.Cells.{Pairs, width, member, mark, pair, put}
-use Rattle.state.specs.Walk.{someMember, somePair}
+use Rattle.state.specs.Walk.{someMember, somePair, count}
 use Rattle.state.specs.Site.{Kind, user, area, object, limit, members, kindNumber, afterMark, withListed, Relation, owner, definition, structure, import, export, firstKind, cells, related, relationNumber, afterPut, withPair, empty, founding}
 use Rattle.state.specs.Laws
 use Rattle.state.specs.declared.State.{State}
 use Rattle.state.proofs.Bools.{is-true, holds, fails, not-so, so-not, not-not}
-use Rattle.state.proofs.Walk.{some-found, some-there}
+use Rattle.state.proofs.Walk.{some-found, some-there, count-within}
 use Rattle.state.proofs.Cells.{member-outside, mark-outside, length-mark, member-same, member-other, member-else, member-kept, member-removed, member-ext, pair-inside, pair-outside, pair-beyond, put-outside, put-past, length-put, pair-same, pair-other, same-or-other, pair-kept, pair-removed, no-member, no-pair, only-zero, only-zeros}
 
 -- ---- one of several is written
@@ -394,3 +394,18 @@ founding-no-pair definition i j ne = no-pair 2048 i j
 founding-no-pair structure i j ne = no-pair 1024 i j
 founding-no-pair import i j ne = no-pair 2048 i j
 founding-no-pair export i j ne = no-pair 2048 i j
+
+-- ---- how many
+-- no more than the cells, of which there are so many
+counted : (cells : List Bool) (n : ℕ) → length cells ≡ n → n ≤ 2048 → count cells ≤ 2048
+counted cells n size h = let most : count cells ≤ length cells = count-within cells in omega arith
+
+pub counts-within : Laws.CountsWithin
+counts-within s shaped zero = counted (s .users) 32 (shaped .sets user) (omega arith)
+counts-within s shaped (suc zero) = counted (s .areas) 32 (shaped .sets area) (omega arith)
+counts-within s shaped (suc (suc zero)) = counted (s .objects) 64 (shaped .sets object) (omega arith)
+counts-within s shaped (suc (suc (suc zero))) = counted (s .owners) 1024 (shaped .relations owner) (omega arith)
+counts-within s shaped (suc (suc (suc (suc zero)))) = counted (s .structure) 1024 (shaped .relations structure) (omega arith)
+counts-within s shaped (suc (suc (suc (suc (suc zero))))) = counted (s .imports) 2048 (shaped .relations import) (omega arith)
+counts-within s shaped (suc (suc (suc (suc (suc (suc zero)))))) = counted (s .exports) 2048 (shaped .relations export) (omega arith)
+counts-within s shaped (suc (suc (suc (suc (suc (suc (suc i))))))) = omega arith

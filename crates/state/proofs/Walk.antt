@@ -1,9 +1,9 @@
 -- A walk along cells that are set: what it has found after some cells, and that it finds exactly what is there.
 --     some-take-more                 one cell more, for a loop
 --     some-found, some-there         what a walk found is there, and what is there is found
---     each-by, each-at               the same for 'each'
+--     count-more, count-within       one cell more, and no more than there are cells
 -- Assumes nothing.
-use Prim.Native.Nat.{ℕ, zero, suc, _+_, _<_}
+use Prim.Native.Nat.{ℕ, zero, suc, _+_, _≤_, _<_}
 use mathlib.Core.Path.{_≡_, refl, sym, ap, _∙_}
 use mathlib.Core.Logic.{_⊎_, inl, inr}
 use mathlib.Core.Bool.{Bool, true, false, _&&_, _||_, or-assoc, or-false}
@@ -13,7 +13,8 @@ use native.Mathlib.Numerals.{add-one}
 use native.Mathlib.Omega.{arith}
 use lib.Dec.{T}
 use lib.ListN.{length, getD, take}
-use Rattle.state.specs.Walk.{someFrom}
+use mir.Val.{boolByte}
+use Rattle.state.specs.Walk.{someFrom, count}
 use Rattle.state.proofs.Bools.{or-left, or-right, or-cases}
 
 module _ (f : ℕ → Bool) where
@@ -64,3 +65,18 @@ module _ (f : ℕ → Bool) where
 
   pub some-there : (l : List Bool) (k : ℕ) → T (getD l k false) → T (f k) → T (someFrom 0 l f)
   some-there l k h t = there-from 0 l k h (rw (zero-add k) t)
+
+-- ---- how many: the first cells, one more, and all of them
+pub count-more : (l : List Bool) (k : ℕ) → k < length l → count (take (suc k) l) ≡ count (take k l) + boolByte (getD l k false)
+unfolding count
+count-more [] k h = absurd (not-suc-le-zero h)
+count-more (true ∷ l) zero h = refl
+count-more (false ∷ l) zero h = refl
+count-more (true ∷ l) (suc k) h = ap suc (count-more l k (le-of-suc-le-suc h)) ∙ sym (suc-add (count (take k l)) (boolByte (getD l k false)))
+count-more (false ∷ l) (suc k) h = count-more l k (le-of-suc-le-suc h)
+
+pub count-within : (l : List Bool) → count l ≤ length l
+unfolding count
+count-within [] = omega arith
+count-within (true ∷ l) = let rest : count l ≤ length l = count-within l in omega arith
+count-within (false ∷ l) = let rest : count l ≤ length l = count-within l in omega arith

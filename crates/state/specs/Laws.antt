@@ -8,7 +8,7 @@ use lib.Dec.{T, eqb}
 use lib.ListN.{length, getD}
 use Rattle.state.specs.Cells.{Members, Pairs, width, member, pair, put}
 use Rattle.state.specs.Walk.{someMember, eachMember, somePair, eachPair, hasFirst, hasSecond}
-use Rattle.state.specs.Site.{Kind, user, area, object, limit, listed, withListed, Relation, owner, firstKind, related, withPair, empty, founding, Shaped}
+use Rattle.state.specs.Site.{Kind, user, area, object, limit, listed, withListed, Relation, owner, firstKind, related, withPair, empty, founding, counts, Shaped}
 use Rattle.state.specs.declared.State.{State}
 
 -- ---- a written number
@@ -170,3 +170,7 @@ pub record SameReadings (s t : State) : Type 0 where
 
 abbrev pub OneRecord : Type 0
 OneRecord = (s t : State) → Shaped s → Shaped t → SameReadings s t → s ≡ t
+
+-- ---- no count is above 2,048, the places of the largest relation
+abbrev pub CountsWithin : Type 0
+CountsWithin = (s : State) → Shaped s → (i : ℕ) → getD (counts s) i 0 ≤ 2048

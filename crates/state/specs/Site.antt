@@ -4,13 +4,16 @@
 --     owns, defines, inside, imports, exports     the relations by the paper's words
 --     empty, founding                             nothing, and the founding state
 --     recordOf                                    a record from its parts
+--     counts                                      how many users, areas, objects and pairs there are
 --     Shaped                                      every set and relation has its number of cells
 use Prim.Native.Nat.{ℕ, _*_}
 use mathlib.Core.Path.{_≡_}
 use mathlib.Core.Bool.{Bool, true, false, cond}
+use mathlib.Core.List.{List, [], _∷_}
 use lib.Dec.{eqb}
 use lib.ListN.{length, replicate}
 use Rattle.state.specs.Cells.{Members, Pairs, width, member, mark, pair, put}
+use Rattle.state.specs.Walk.{count}
 use Rattle.state.specs.declared.State.{State}
 
 -- the record of three sets and five relations
@@ -138,6 +141,18 @@ empty =
 -- "In the founding state user 0 owns area 0; its 2,048 import places and 2,048 export places are all empty"
 unfoldable pub founding : State
 founding = withPair (withListed (withListed empty user 0 true) area 0 true) owner 0 0 true
+
+-- "the counts of users, areas, objects, owner, structure, import and export pairs"
+abbrev pub counts : State → List ℕ
+counts s =
+    count (members s user)
+    ∷ count (members s area)
+    ∷ count (members s object)
+    ∷ count (cells s owner)
+    ∷ count (cells s structure)
+    ∷ count (cells s import)
+    ∷ count (cells s export)
+    ∷ []
 
 -- Every set and every relation has its number of cells. The type of the record in the code says so; the lists that stand for its arrays here do not,
 -- so the laws that need it ask for it.
