@@ -3,16 +3,20 @@
 .PHONY: run test bench clean
 
 run:
-	@rt check examples
+	@rt check panelrights
 	@echo
-	@target/bin/examples
+	@echo 'PanelRights, on the session of document 01 (crates/panelrights/stdin):'
+	@target/bin/panelrights <crates/panelrights/stdin
+	@echo
+	@echo 'On a file of your own: target/bin/panelrights <FILE'
 
 test:
-	@rt ci
+	@tests/gate.sh
 
 bench:
 	@mkdir -p target
 	@rt staticlib probe >target/staticlib.log || { cat target/staticlib.log; exit 1; }
+	@rt check panelrights >target/panelrights.log || { cat target/panelrights.log; exit 1; }
 	@CARGO_TARGET_DIR=target/cargo cargo run --quiet --release --manifest-path bench/Cargo.toml
 
 clean:

@@ -1,12 +1,14 @@
-//! Times the library beside plain Rust on the same cells, in one run: the access question, and the step; and the reader of site files beside the soundness check.
-//! Before that it compares the answers of the two on random instructions; an argument gives their number.
+//! Times the library beside plain Rust on the same cells, in one run: the access question, and the step; the reader of site files beside the soundness check; and
+//! the program PanelRights beside a session in plain Rust. Before that it compares the answers of the two on random instructions; an argument gives their number.
 
 mod agree;
 mod chance;
 mod files;
 mod library;
 mod plain;
+mod program;
 mod record;
+mod sessions;
 mod states;
 
 use chance::Chance;
@@ -16,6 +18,7 @@ use std::hint::black_box;
 use std::time::Instant;
 
 const ROUNDS: usize = 25;
+const PROGRAM_ROUNDS: usize = 5;
 const COMPARED: u32 = 40_000;
 const BOTH: [&str; 2] = ["library", "plain"];
 
@@ -113,6 +116,26 @@ fn time_read() {
     }
 }
 
+/// The program from start to end, beside a session in plain Rust: the least time of each, in milliseconds.
+fn time_program() {
+    let cases = [("accepted", sessions::accepted(), " 0"), ("dense", sessions::dense(), " 0"), ("empty lines", sessions::empty_lines(), " 13")];
+    for (name, input, result) in cases {
+        let lines = input.split_terminator('\n').count();
+        let mut best = [f64::INFINITY; 2];
+        for _ in 0..PROGRAM_ROUNDS {
+            let began = Instant::now();
+            let printed = program::run(&input);
+            best[0] = best[0].min(began.elapsed().as_secs_f64() * 1e3);
+            let began = Instant::now();
+            let expected = sessions::transcript(&input);
+            best[1] = best[1].min(began.elapsed().as_secs_f64() * 1e3);
+            assert!(printed == expected, "{name}: the program prints something else");
+            assert!(printed.lines().take(lines).all(|line| line.ends_with(result)), "{name}: a line has another result");
+        }
+        println!("bench panelrights {name} ({lines} lines): program {:.1} ms, plain {:.1} ms, ratio {:.2}", best[0], best[1], best[0] / best[1]);
+    }
+}
+
 /// An instruction with this code that the state accepts.
 fn acceptable(s: &Record, code: u8) -> Bytes {
     let mut chance = Chance::new(3);
@@ -130,4 +153,5 @@ fn main() {
     time_access();
     time_step();
     time_read();
+    time_program();
 }

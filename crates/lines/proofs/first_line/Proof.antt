@@ -1,0 +1,49 @@
+-- `lines::first_line` meets its contract.
+-- Assumes nothing.
+use mathlib.Core.Path.{sym}
+use native.Mathlib.Nat.{sub-zero}
+use native.Mathlib.Numerals.{add-one}
+use native.Mathlib.Omega.{arith}
+use Rattle.lines.proofs.Ended.{first-ended, first-unended}
+use Rattle.lines.proofs.first_line.Statement.{statement}
+use Rattle.lines.proofs.first_line.Tie as tie
+
+index-requires : tie.Need-index-requires
+index-requires c κs = tt
+
+sub-read-line : tie.Need-sub-read-line
+sub-read-line c = omega arith
+
+part-read-line-start : tie.Need-part-read-line-start
+part-read-line-start c = omega arith
+
+part-read-line-end : tie.Need-part-read-line-end
+part-read-line-end c = omega arith
+
+read-line-requires : tie.Need-read-line-requires
+read-line-requires c κs = tt
+
+add-t11 : tie.Need-add-t11
+add-t11 c = omega arith
+
+returns : tie.Need-returns
+returns c =
+    let found = c .before .before in
+    let i = found .before .index .result in
+    rw (c .read-line .ensures, sub-zero i, add-one i) (sym (first-ended _ _ (found .before .index .ensures) (found .if1 .taken)))
+
+returns-2 : tie.Need-returns-2
+returns-2 c = sym (first-unended _ _ (c .before .index .ensures) (c .if1 .left))
+
+pub first-line-spec : {M : Type 1} → statement M
+first-line-spec =
+    tie.close
+    (tie.spec
+    index-requires
+    sub-read-line
+    part-read-line-start
+    part-read-line-end
+    read-line-requires
+    add-t11
+    returns
+    returns-2)

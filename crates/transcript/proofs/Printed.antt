@@ -1,0 +1,97 @@
+-- What is printed for an input: the claims, and what the functions use.
+--     session-is-run, session-printed, session-upheld     the session is a run, and demand 3 speaks of it
+--     too-long-printed, told-printed                      the two transcripts that `write` writes
+--     printed-at-most, printed-room                       no transcript has more bytes, so there is room for it
+-- Assumes nothing.
+use Prim.Native.Nat.{ℕ, _+_, _-_, _*_, _≤_, _<_}
+use mathlib.Core.Path.{_≡_, refl, sym, ap, subst, _∙_}
+use mathlib.Core.Bool.{Bool, true, false, cond}
+use mathlib.Core.List.{List, _++_}
+use native.Mathlib.Nat.{sub-zero}
+use native.Mathlib.Omega.{arith}
+use borrow.Author.Tests.{lt-ltb, le-ltb, ltb-false}
+use lib.ListN.{length, take, length-append}
+use Rattle.state.specs.Site.{founding, counts}
+use Rattle.state.specs.declared.State.{State}
+use Rattle.state.proofs.Laws.{counts-within}
+use Rattle.soundness.specs.Sound.{Sound}
+use Rattle.soundness.proofs.Laws.{founding-sound}
+use Rattle.machine.specs.Demand3.{Upheld}
+use Rattle.machine.proofs.Demand3.{demand-3}
+use Rattle.lines.specs.Lines.{linesOf}
+use Rattle.lines.specs.declared.Line.{Line}
+use Rattle.lines.proofs.Laws.{lines-at-most}
+use Rattle.transcript.specs.Session.{resultsFrom, stateAfter, instructionsOf}
+use Rattle.transcript.specs.Transcript.{resultLines, stateLine, sessionText, mostRead, isTooLong, tooLong, resultsOf, stateOf, transcriptOf, mostPrinted}
+use Rattle.transcript.specs.Placing.{Told, Room}
+use Rattle.transcript.specs.Claims as Claims
+use Rattle.transcript.proofs.Session.{after-append, after-run, results-length, results-small}
+use Rattle.transcript.proofs.Lengths.{lines-length, state-length}
+
+pub session-is-run : Claims.SessionIsRun
+unfolding stateOf
+session-is-run input = after-run founding (linesOf input)
+
+-- an input that is not too long prints its session
+fitting : (input : List ℕ) → isTooLong input ≡ false → transcriptOf input ≡ sessionText (resultsOf input) (counts (stateOf input))
+unfolding transcriptOf
+fitting input e = ap (λ (b : Bool). cond b tooLong (sessionText (resultsOf input) (counts (stateOf input)))) e
+
+-- an input that is too long prints `too long`
+pub too-long-printed : (input : List ℕ) → mostRead < length input → tooLong ≡ transcriptOf input
+unfolding transcriptOf
+too-long-printed input long = rw (lt-ltb mostRead (length input) long) refl
+
+-- and any other its results and counts, as the code has them
+pub told-printed : (input results : List ℕ) (lines : ℕ) (s : State) (numbers : List ℕ) → Told input results lines s → numbers ≡ counts s → length input ≤ mostRead
+    → sessionText (take (lines - 0) results) numbers ≡ transcriptOf input
+told-printed input results lines s numbers told e fits =
+    rw (fitting input (le-ltb mostRead (length input) fits), sub-zero lines, e, told .front, told .ending) refl
+
+pub session-printed : Claims.SessionPrinted
+session-printed input fits =
+    fitting input (le-ltb mostRead (length input) fits) ∙ ap (λ (s : State). sessionText (resultsOf input) (counts s)) (session-is-run input)
+
+sound-after : (lines : List Line) → Sound (stateAfter founding lines)
+sound-after lines = subst Sound (sym (after-run founding lines)) (demand-3 founding (instructionsOf lines) founding-sound .sound)
+
+pub session-upheld : Claims.SessionUpheld
+session-upheld before after =
+    subst (λ (t : State). Upheld (stateAfter founding before) (instructionsOf after) t)
+    (sym (after-append founding before after ∙ after-run (stateAfter founding before) after))
+    (demand-3 (stateAfter founding before) (instructionsOf after) (sound-after before))
+
+-- ---- no transcript has more bytes
+results-text : (input : List ℕ) → length input ≤ mostRead → length (resultLines 1 (resultsOf input)) ≤ 9 * mostRead
+unfolding resultsOf
+results-text input fits =
+    let each : length (resultsFrom founding (linesOf input)) ≡ length (linesOf input) = results-length founding (linesOf input) in
+    let few : length (linesOf input) ≤ length input = lines-at-most input in
+    let text : length (resultLines 1 (resultsFrom founding (linesOf input))) ≤ 9 * length (resultsFrom founding (linesOf input))
+    = lines-length 1 (resultsFrom founding (linesOf input)) (omega arith) (results-small founding (linesOf input)) in
+    omega arith
+
+state-text : (input : List ℕ) → length (stateLine (counts (stateOf input))) ≤ 41
+unfolding stateOf
+state-text input = state-length (counts (stateAfter founding (linesOf input))) (counts-within (stateAfter founding (linesOf input)) (sound-after (linesOf input) .shaped))
+
+session-length : (input : List ℕ) → length input ≤ mostRead → length (sessionText (resultsOf input) (counts (stateOf input))) ≤ mostPrinted
+unfolding sessionText
+session-length input fits =
+    let results : length (resultLines 1 (resultsOf input)) ≤ 9 * mostRead = results-text input fits in
+    let line : length (stateLine (counts (stateOf input))) ≤ 41 = state-text input in
+    let both : length (resultLines 1 (resultsOf input) ++ stateLine (counts (stateOf input))) ≡ length (resultLines 1 (resultsOf input)) + length (stateLine (counts (stateOf input)))
+    = length-append (resultLines 1 (resultsOf input)) (stateLine (counts (stateOf input))) in
+    omega arith
+
+pub printed-at-most : Claims.PrintedAtMost
+unfolding transcriptOf
+printed-at-most input = go (isTooLong input) refl
+  where
+    go : (b : Bool) → isTooLong input ≡ b → length (cond b tooLong (sessionText (resultsOf input) (counts (stateOf input)))) ≤ mostPrinted
+    go true e = omega arith
+    go false e = session-length input (ltb-false mostRead (length input) e)
+
+-- so there is room for what is laid
+pub printed-room : (input text : List ℕ) → text ≡ transcriptOf input → Room 0 text
+printed-room input text e = let most : length text ≤ mostPrinted = rw e (printed-at-most input) in omega arith

@@ -1,0 +1,80 @@
+-- What PanelRights prints for an input (document 01, 'The program PanelRights'), and what becomes of the buffer that it is written into.
+use Prim.Native.Nat.{ℕ, _+_}
+use mathlib.Core.Bool.{Bool, cond}
+use mathlib.Core.List.{List, [], _∷_, _++_}
+use lib.Dec.{ltb}
+use lib.ListN.{length, drop}
+use Rattle.state.specs.Site.{founding, counts}
+use Rattle.state.specs.declared.State.{State}
+use Rattle.lines.specs.Decimal.{decimal}
+use Rattle.lines.specs.Lines.{newline, space, linesOf}
+use Rattle.transcript.specs.Session.{resultsFrom, stateAfter}
+use Rattle.transcript.specs.declared.Written.{Written}
+
+-- "the line's number from 1, a space, and 0 or the refusal. .. Each printed line ends with byte 10."
+unfoldable pub resultLine : (k result : ℕ) → List ℕ
+resultLine k result = decimal k ++ (space ∷ decimal result) ++ (newline ∷ [])
+
+-- one for each result, the first of them for line k
+unfoldable pub resultLines : ℕ → List ℕ → List ℕ
+resultLines k [] = []
+resultLines k (result ∷ rest) = resultLine k result ++ resultLines (k + 1) rest
+
+-- numbers with a space in front of each
+unfoldable pub spaced : List ℕ → List ℕ
+spaced [] = []
+spaced (n ∷ rest) = space ∷ decimal n ++ spaced rest
+
+-- the bytes of `state`
+abbrev pub stateWord : List ℕ
+stateWord = 115 ∷ 116 ∷ 97 ∷ 116 ∷ 101 ∷ []
+
+-- "Last it prints `state` and the counts of users, areas, objects, owner, structure, import and export pairs."
+unfoldable pub stateLine : (numbers : List ℕ) → List ℕ
+stateLine numbers = stateWord ++ spaced numbers ++ (newline ∷ [])
+
+-- the results and the counts of a session, printed
+unfoldable pub sessionText : (results numbers : List ℕ) → List ℕ
+sessionText results numbers = resultLines 1 results ++ stateLine numbers
+
+-- "Input above 65,536 bytes"
+abbrev pub mostRead : ℕ
+mostRead = 65536
+
+abbrev pub isTooLong : (input : List ℕ) → Bool
+isTooLong input = ltb mostRead (length input)
+
+-- "yields the line `too long` alone"
+abbrev pub tooLong : List ℕ
+tooLong = 116 ∷ 111 ∷ 111 ∷ space ∷ 108 ∷ 111 ∷ 110 ∷ 103 ∷ newline ∷ []
+
+-- the results of an input's lines, and the state behind the state line; "It begins in F." An input that is too long has neither printed.
+unfoldable pub resultsOf : (input : List ℕ) → List ℕ
+resultsOf input = resultsFrom founding (linesOf input)
+
+unfoldable pub stateOf : (input : List ℕ) → State
+stateOf input = stateAfter founding (linesOf input)
+
+-- what is printed for the input
+unfoldable pub transcriptOf : (input : List ℕ) → List ℕ
+transcriptOf input = cond (isTooLong input) tooLong (sessionText (resultsOf input) (counts (stateOf input)))
+
+-- no transcript has more bytes (Claims, PrintedAtMost): 65,536 lines of at most 9, and a state line of at most 41
+abbrev pub mostPrinted : ℕ
+mostPrinted = 589865
+
+-- ---- the buffer
+abbrev pub written : (refusal count : ℕ) → Written
+written refusal count = record { refusal = refusal; length = count }
+
+-- the buffer is shorter than the text
+abbrev pub isShort : (text buffer : List ℕ) → Bool
+isShort text buffer = ltb (length buffer) (length text)
+
+-- 31, document 02's number for a buffer that is too short, and no byte written; or 0 and how many were
+unfoldable pub writtenOf : (text buffer : List ℕ) → Written
+writtenOf text buffer = cond (isShort text buffer) (written 31 0) (written 0 (length text))
+
+-- no byte changed where the buffer is too short; else the text at the front, and the bytes past it as they were
+unfoldable pub bufferOf : (text buffer : List ℕ) → List ℕ
+bufferOf text buffer = cond (isShort text buffer) buffer (text ++ drop (length text) buffer)
