@@ -16,7 +16,7 @@ use lib.Dec.{T, ltb, ltb→lt}
 use lib.ListN.{length, take, drop}
 use Rattle.state.proofs.Bools.{and-left, and-right, holds}
 use Rattle.lines.specs.Decimal.{decimal, noNumber, number}
-use Rattle.lines.specs.Lines.{space, parts, lineBy, lineOf, index}
+use Rattle.lines.specs.Lines.{space, parts, areNumbers, lineBy, lineOf, index}
 use Rattle.lines.specs.Claims.{textOf, Below, FourNumbers, ReadableExactly}
 use Rattle.lines.specs.declared.Line.the-variants.{Unreadable, Readable}
 use Rattle.lines.proofs.Parts.{index-most, parts-found, parts-whole, parts-word, parts-more, join, join-parts}
@@ -24,10 +24,7 @@ use Rattle.lines.proofs.Decimal.{decimal-lacks}
 use Rattle.lines.proofs.Words.{number-is, number-at, number-lacks}
 
 -- ---- each of four numbers is below 256
-abbrev pub below : (c u a b : ℕ) → Bool
-below c u a b = ltb c noNumber && ltb u noNumber && ltb a noNumber && ltb b noNumber
-
-pub all-below : (c u a b : ℕ) → T (below c u a b) → Below c u a b
+pub all-below : (c u a b : ℕ) → T (areNumbers c u a b) → Below c u a b
 all-below c u a b t =
     let three = and-left (ltb c noNumber && ltb u noNumber && ltb a noNumber) (ltb b noNumber) t in
     let two = and-left (ltb c noNumber && ltb u noNumber) (ltb a noNumber) three in
@@ -80,9 +77,9 @@ module _ (c u a b : ℕ) where
   written (p ∷ []) e = absurd (never e)
   written (p ∷ q ∷ []) e = absurd (never e)
   written (p ∷ q ∷ r ∷ []) e = absurd (never e)
-  written (p ∷ q ∷ r ∷ s ∷ []) e = go (below (number p) (number q) (number r) (number s)) refl e
+  written (p ∷ q ∷ r ∷ s ∷ []) e = go (areNumbers (number p) (number q) (number r) (number s)) refl e
     where
-      go : (t : Bool) → below (number p) (number q) (number r) (number s) ≡ t
+      go : (t : Bool) → areNumbers (number p) (number q) (number r) (number s) ≡ t
           → cond t (Readable (number p) (number q) (number r) (number s)) Unreadable ≡ Readable c u a b
           → FourNumbers (p ++ space ∷ (q ++ space ∷ (r ++ space ∷ s))) c u a b
       go true t e =

@@ -6,7 +6,7 @@
 --     lineNumber  the paper's number for a line
 --     firstLineOf the first line, and how many bytes it takes
 use Prim.Native.Nat.{ℕ, suc}
-use mathlib.Core.Bool.{_&&_, cond}
+use mathlib.Core.Bool.{Bool, _&&_, cond}
 use mathlib.Core.List.{List, [], _∷_, map}
 use lib.Dec.{eqb, ltb}
 use lib.ListN.{length, take}
@@ -37,13 +37,17 @@ unfoldable pub parts : (at : ℕ) → List ℕ → List (List ℕ)
 parts at [] = [] ∷ []
 parts at (x ∷ rest) = cond (eqb x at) ([] ∷ parts at rest) (onto x (parts at rest))
 
--- "four decimal numbers 0 to 255": a line of exactly these is readable
+-- "four decimal numbers 0 to 255"
+abbrev pub areNumbers : (c u a b : ℕ) → Bool
+areNumbers c u a b = ltb c noNumber && ltb u noNumber && ltb a noNumber && ltb b noNumber
+
+-- a line of exactly these is readable
 abbrev pub lineBy : List ℕ → Line
 lineBy [] = Unreadable
 lineBy (c ∷ []) = Unreadable
 lineBy (c ∷ u ∷ []) = Unreadable
 lineBy (c ∷ u ∷ a ∷ []) = Unreadable
-lineBy (c ∷ u ∷ a ∷ b ∷ []) = cond (ltb c noNumber && ltb u noNumber && ltb a noNumber && ltb b noNumber) (Readable c u a b) Unreadable
+lineBy (c ∷ u ∷ a ∷ b ∷ []) = cond (areNumbers c u a b) (Readable c u a b) Unreadable
 lineBy (c ∷ u ∷ a ∷ b ∷ more ∷ rest) = Unreadable
 
 -- what a line says, its byte 10 left out: its parts, "one space between", are the numbers

@@ -1,5 +1,6 @@
--- What this crate's own functions promise each other. A text is laid over a buffer from a place on, as far as the buffer goes, and the place behind it is
--- answered. So a text laid over a buffer of no bytes, from place 0 on, is only counted.
+-- What this crate's own functions promise each other. Those that write: a text is laid over a buffer from a place on, as far as the buffer goes, and the place
+-- behind it is answered (Placed); so a text laid over a buffer of no bytes, from place 0 on, is only counted. The one that obeys the lines: their results and
+-- the state after them (Told).
 use Prim.Native.Nat.{ℕ, _+_, _≤_}
 use mathlib.Core.Path.{_≡_}
 use mathlib.Core.List.{List}
