@@ -1,10 +1,13 @@
--- What is claimed of the numbers that a step gives, and of a list of instructions. Each claim is a type, which proofs/Laws.antt inhabits under the claim's name.
-use Prim.Native.Nat.{_<_}
+-- What is claimed of the numbers that a step gives, of an unsound state and of a refusal, and of a list of instructions. Each claim is a type, which proofs/Laws.antt inhabits under the claim's name.
+use Prim.Native.Nat.{ℕ, _<_}
 use mathlib.Core.Path.{_≡_}
+use mathlib.Core.Bool.{false}
 use mathlib.Core.List.{List, [], _∷_}
 use Rattle.state.specs.declared.State.{State}
+use Rattle.soundness.specs.Tests.{isSound}
 use Rattle.instructions.specs.Instructions.{Bytes}
-use Rattle.machine.specs.Step.{stepOf, run}
+use Rattle.machine.specs.Step.{stepOf, run, replyOf}
+use Rattle.machine.specs.declared.Reply.the-variants.{Refused}
 
 -- "13 belongs to the program alone"
 abbrev pub NeverThirteen : Type 0
@@ -13,6 +16,17 @@ NeverThirteen = (s : State) (bytes : Bytes) → stepOf s bytes .refusal ≡ 13 �
 -- a number has at most two digits
 abbrev pub TwoDigits : Type 0
 TwoDigits = (s : State) (bytes : Bytes) → stepOf s bytes .refusal < 100
+
+-- 12: "the state is unsound"
+abbrev pub UnsoundRefused : Type 0
+UnsoundRefused = (s : State) (bytes : Bytes) → isSound s ≡ false → stepOf s bytes .refusal ≡ 12
+
+abbrev pub UnsoundUnanswered : Type 0
+UnsoundUnanswered = (s : State) (a b : ℕ) → isSound s ≡ false → replyOf s a b ≡ Refused 12
+
+-- "The state after a refusal is the state given."
+abbrev pub RefusedUnchanged : Type 0
+RefusedUnchanged = (s : State) (bytes : Bytes) → (stepOf s bytes .refusal ≡ 0 → ⊥) → stepOf s bytes .state ≡ s
 
 -- no instruction, and one in front
 abbrev pub RunNone : Type 0

@@ -121,6 +121,13 @@ label-inside file a = go (test (hasLabel file a))
         rw (f .0, f .1) (omega (arith, entry-within file (no-refusal file a t) (entry file a) (an-entry file a t), text-within file (no-refusal file a t) (entry file a) (an-entry file a t)))
     go (inr e) = let f = front file a (fails e) in rw (f .0, f .1) (omega arith)
 
+pub label-small : Claims.LabelSmall
+label-small file bytes a = go (test (hasLabel file a))
+  where
+    go : T (hasLabel file a) ⊎ (hasLabel file a ≡ false) → textAt file a + textLength file a < 65536
+    go (inl t) = omega (arith, label-inside file a, checked file (no-refusal file a t) .length-stated, bytes 2, bytes 3)
+    go (inr e) = let f = front file a (fails e) in rw (f .0, f .1) (omega arith)
+
 pub label-of : Claims.LabelOf
 label-of file k e h = record { starts = starts; text = text; long = size }
   where

@@ -81,3 +81,7 @@ NoLabelAbove = (file : List ℕ) (a : ℕ) → 32 ≤ a → AtFront file a
 -- the text lies in the file
 abbrev pub LabelInside : Type 0
 LabelInside = (file : List ℕ) (a : ℕ) → textAt file a + textLength file a ≤ length file
+
+-- so two bytes hold the place where it ends
+abbrev pub LabelSmall : Type 0
+LabelSmall = (file : List ℕ) → AreBytes file → (a : ℕ) → textAt file a + textLength file a < 65536

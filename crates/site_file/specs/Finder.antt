@@ -8,6 +8,7 @@ use lib.ListN.{take, drop}
 use Rattle.label_tables.specs.Labels.{labelSize, labelCount, labelLength, labelIndex}
 use Rattle.site_format.specs.Format.{labels, offsetIn, part}
 use Rattle.site_file.specs.Reading.{refusalOf}
+use Rattle.site_file.specs.declared.Place.{Place}
 
 -- the file is accepted, and the area has a label in it
 abbrev pub hasLabel : (file : List ℕ) (a : ℕ) → Bool
@@ -19,6 +20,10 @@ textAt file a = cond (hasLabel file a) (offsetIn file labels + (labelIndex (part
 
 unfoldable pub textLength : (file : List ℕ) (a : ℕ) → ℕ
 textLength file a = cond (hasLabel file a) (labelLength (part file labels) (labelIndex (part file labels) a)) 0
+
+-- the two as one answer
+abbrev pub placeOf : (file : List ℕ) (a : ℕ) → Place
+placeOf file a = record { at = textAt file a; length = textLength file a }
 
 -- the bytes of the text
 abbrev pub labelText : (file : List ℕ) (a : ℕ) → List ℕ

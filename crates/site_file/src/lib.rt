@@ -1,6 +1,5 @@
 // Site files: any bytes get a sound state or a refusal number, and an area's label is a part of the caller's file.
 ghost use mathlib.Core.Path.{_≡_};
-ghost use mathlib.Core.List.{[]};
 ghost use lib.Dec.{eqb};
 ghost use denote.Ref.{ptr};
 ghost use Rattle.state.specs.Checks.{firstMet};
@@ -8,13 +7,19 @@ ghost use Rattle.state.specs.Site.{founding};
 ghost use Rattle.soundness.specs.Sound.{Sound};
 ghost use Rattle.site_format.specs.Format.{labels, part, behind};
 ghost use Rattle.site_file.specs.Reading.{tablesFit, tablesAscend, stateIn, stateChecks, refusalOf, readingOf, readOf};
-ghost use Rattle.site_file.specs.Finder.{textAt, labelText};
+ghost use Rattle.site_file.specs.Finder.{textAt, placeOf, labelText};
 use state::State;
 
 // The refusal, 0 for none, and the state that the file holds; beside a refusal, the founding state.
 pub struct Reading {
     pub refusal: u8,
     pub state: State,
+}
+
+// A part of a file: where it starts, and how many bytes it has.
+pub struct Place {
+    pub at: u16,
+    pub length: u8,
 }
 
 // Is every number, length, text byte and filler byte in its range?
@@ -133,12 +138,27 @@ fn is_accepted(file: &[u8]) -> bool
     reading.refusal == 0
 }
 
-// The part of length 0 at the file's front.
-fn front(file: &[u8]) -> &[u8]
-    ensures bytes { λ r. ⌜ now r ≡ [] ⌝ }
-    ensures place { λ r. ⌜ r .ptr ≡ behind (file .entry .ptr) 0 ⌝ }
+// Where the text of the area's label stands in the file, and how many bytes it has; both are 0 for a refused file, or an area with no label.
+pub fn label_place(file: &[u8], area: u8) -> Place
+    ensures { λ r. ⌜ r ≡ placeOf (now (file .entry)) area ⌝ }
 {
-    site_format::part_from(file, 0, 0)
+    let nowhere = Place {
+        at: 0,
+        length: 0,
+    };
+    if !is_accepted(file) {
+        return nowhere;
+    }
+    let table = site_format::labels(file);
+    let k = label_tables::index_of(table, area);
+    if table.len() / 32 <= k {
+        return nowhere;
+    }
+    let at = site_format::field_at(file, 26) as usize + (k * 32 + 2);
+    Place {
+        at: at as u16,
+        length: table[k * 32 + 1],
+    }
 }
 
 // The text of the area's label, as a part of the file; for a refused file, or an area with no label, the part of length 0 at the file's front.
@@ -146,14 +166,6 @@ pub fn label(file: &[u8], area: u8) -> &[u8]
     ensures bytes { λ r. ⌜ now r ≡ labelText (now (file .entry)) area ⌝ }
     ensures place { λ r. ⌜ r .ptr ≡ behind (file .entry .ptr) (textAt (now (file .entry)) area) ⌝ }
 {
-    if !is_accepted(file) {
-        return front(file);
-    }
-    let table = site_format::labels(file);
-    let k = label_tables::index_of(table, area);
-    if table.len() / 32 <= k {
-        return front(file);
-    }
-    let at = site_format::field_at(file, 26) as usize + (k * 32 + 2);
-    site_format::part_from(file, at, table[k * 32 + 1] as usize)
+    let place = label_place(file, area);
+    site_format::part_from(file, place.at as usize, place.length as usize)
 }

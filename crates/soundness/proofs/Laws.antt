@@ -7,10 +7,10 @@ use mathlib.Core.Bool.{Bool, true, _&&_}
 use native.Mathlib.Omega.{arith}
 use lib.Dec.{T, eqb}
 use Rattle.state.specs.Walk.{eachPair, hasFirst, hasSecond}
-use Rattle.state.specs.Site.{user, area, Relation, owner, definition, structure, import, export, members, cells, firstKind, listed, related, owns, founding}
+use Rattle.state.specs.Site.{user, area, Relation, owner, definition, structure, import, export, members, cells, firstKind, listed, related, owns, empty, founding}
 use Rattle.state.specs.declared.State.{State}
-use Rattle.state.proofs.Bools.{and-both, and-left, and-right, fails}
-use Rattle.state.proofs.Laws.{some-member, each-member, each-pair, has-first, has-second, founding-listed, founding-owner, founding-no-pair, founding-shaped}
+use Rattle.state.proofs.Bools.{and-both, and-left, and-right, is-false, fails}
+use Rattle.state.proofs.Laws.{some-member, each-member, each-pair, has-first, has-second, founding-listed, founding-owner, founding-no-pair, founding-shaped, empty-related, empty-shaped}
 use Rattle.access.specs.Lending.{lending}
 use Rattle.access.specs.Answer.{access}
 use Rattle.soundness.specs.Sound.{Named, Consistent}
@@ -194,6 +194,17 @@ founding-sound =
         exported = λ o a t. absurd (not-owner export (λ e. not-the-same (cc)) o a t);
       };
     }
+
+-- an area would have an owner
+pub empty-unsound : Claims.EmptyUnsound
+empty-unsound = is-false (isSound empty) none
+  where
+    none : T (isSound empty) → ⊥
+    none t =
+        let sound = sound-decided empty empty-shaped .0 t in
+        let found = sound .some-area in
+        let owner-pair = sound .acceptable .areas (found .0) (found .1) in
+        fails (empty-related owner (owner-pair .0) (found .0)) (owner-pair .1)
 
 -- ---- a sound record is that of its relations
 pub record-of-relations : Claims.RecordOfRelations

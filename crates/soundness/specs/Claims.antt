@@ -1,12 +1,12 @@
--- What is claimed: each test decides its part, and all of them soundness; the founding state is sound, and a sound record is that of its relations. Each claim is a
+-- What is claimed: each test decides its part, and all of them soundness; the founding state is sound, the state of nothing is not, and a sound record is that of its relations. Each claim is a
 -- type, which proofs/Laws.antt inhabits under the claim's name.
 use Prim.Native.Nat.{ℕ}
 use mathlib.Core.Path.{_≡_}
 use mathlib.Core.Logic.{_↔_}
-use mathlib.Core.Bool.{_&&_}
+use mathlib.Core.Bool.{false, _&&_}
 use lib.Dec.{T}
 use Rattle.state.specs.Cells.{Members, member}
-use Rattle.state.specs.Site.{object, listed, Relation, related, Shaped, founding}
+use Rattle.state.specs.Site.{object, listed, Relation, related, Shaped, empty, founding}
 use Rattle.state.specs.declared.State.{State}
 use Rattle.soundness.specs.Sound.{Consistent, DefinedOnce, Acceptable, Valid, Sound}
 use Rattle.soundness.specs.Rows.{objectsReached, wellFormedOf, soundOf}
@@ -47,6 +47,10 @@ SoundOfRecord = (s : State) → Shaped s → isSound s ≡ soundOf (s .users) (s
 
 abbrev pub FoundingSound : Type 0
 FoundingSound = Sound founding
+
+-- the state of nothing has no area
+abbrev pub EmptyUnsound : Type 0
+EmptyUnsound = isSound empty ≡ false
 
 -- "the record its relations have": two sound records with the same relations are one, their lists too
 abbrev pub RecordOfRelations : Type 0

@@ -1,8 +1,9 @@
--- Cells has the laws of how a set and a relation are kept, and is this crate's own. Bools, Tabulate, Fill, Found, Walk, Below, Ascending and Checks serve every crate above.
+-- Cells has the laws of how a set and a relation are kept, and is this crate's own. Bools, Tabulate, Fill, Stores, Found, Walk, Below, Ascending and Checks serve every crate above.
 mod Cells
 pub mod Bools
 pub mod Tabulate
 pub mod Fill
+pub mod Stores
 pub mod Found
 pub mod Walk
 pub mod Below

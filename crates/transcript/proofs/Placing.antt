@@ -8,16 +8,12 @@
 use Prim.Native.Nat.{ℕ, suc, _+_, _≤_, _<_}
 use mathlib.Core.Path.{_≡_, refl, sym, ap, _∙_}
 use mathlib.Core.List.{List, [], _∷_, _++_, append-assoc, append-nil}
-use native.Mathlib.Nat.{add-zero, add-suc, suc-add}
+use native.Mathlib.Nat.{add-zero}
 use native.Mathlib.Omega.{arith}
-use lib.ListN.{length, set, length-append}
-use lib.Seq.{sets, length-sets}
+use lib.ListN.{length, length-append}
+use lib.Seq.{length-sets}
+use Rattle.state.proofs.Stores.{sets-append}
 use Rattle.transcript.specs.Placing.{Room, Placed}
-
-sets-append : (b : List ℕ) (at : ℕ) (t u : List ℕ) → sets b at (t ++ u) ≡ sets (sets b at t) (at + length t) u
-sets-append b at [] u = ap (λ (k : ℕ). sets b k u) (sym (add-zero at))
-sets-append b at (x ∷ t) u =
-    sets-append (set b at x) (suc at) t u ∙ ap (λ (k : ℕ). sets (sets (set b at x) (suc at) t) k u) (suc-add at (length t) ∙ sym (add-suc at (length t)))
 
 pub placed-none : (at : ℕ) (b : List ℕ) → Placed [] at b at b
 placed-none at b = record { behind = sym (add-zero at); bytes = refl }

@@ -1,0 +1,102 @@
+// The C interface, which include/panelrights.h declares: numbers and byte slices. Each function takes a record apart and calls one function of a crate below; no rule stands here.
+ghost use mathlib.Core.Path.{_≡_};
+ghost use Rattle.records.specs.Record.{recordSize, numberFor};
+ghost use Rattle.instructions.specs.Instructions.{fourBytes};
+ghost use Rattle.marks.specs.Marks.{lowest};
+ghost use Rattle.access.specs.Answer.{number};
+ghost use Rattle.capi.specs.Interface.{foundingBuffer, stepNumber, stepBuffer, replyCode, accessNumber, fileNumber, fileBuffer, labelNumber};
+use access::Answer;
+use machine::Reply;
+use state::State;
+
+// How many bytes the record of a state has.
+#[no_mangle]
+pub extern "C" fn panelrights_state_bytes() -> usize
+    ensures { λ r. ⌜ r ≡ recordSize ⌝ }
+{
+    records::SIZE
+}
+
+// Writes the record of the founding state: 0; or 31 and no byte written, if the buffer has another length.
+#[no_mangle]
+pub extern "C" fn panelrights_founding(state: &mut [u8]) -> u8
+    ensures number { λ r. ⌜ r ≡ numberFor (now (state .entry)) ⌝ }
+    ensures buffer { λ _. ⌜ now (state .exit) ≡ foundingBuffer (now (state .entry)) ⌝ }
+{
+    records::write(State::founding(), state)
+}
+
+// Obeys one instruction: 0 and the state after it in place, or the refusal and no byte changed. Bytes that are no record are the state of nothing, which is not sound: 12.
+#[no_mangle]
+pub extern "C" fn panelrights_step(state: &mut [u8], code: u8, activator: u8, a: u8, b: u8) -> u8
+    ensures number { λ r. ⌜ r ≡ stepNumber (now (state .entry)) (fourBytes code activator a b) ⌝ }
+    ensures buffer { λ _. ⌜ now (state .exit) ≡ stepBuffer (now (state .entry)) (fourBytes code activator a b) ⌝ }
+{
+    let outcome = machine::step(records::state_of(state), code, activator, a, b);
+    let refusal = outcome.refusal;
+    if refusal != 0 {
+        return refusal;
+    }
+    let next = outcome.state;
+    records::write(next, state)
+}
+
+// The number that stands for an answer: the steps, or 255 for no access.
+fn number_of(answer: Answer) -> u16
+    ensures { λ r. ⌜ r ≡ number answer ⌝ }
+{
+    match answer {
+        Answer::Steps(n) => n as u16,
+        Answer::NoAccess => 255,
+    }
+}
+
+// The number that stands for a reply: that of the answer, or 256 and the refusal.
+fn code_of(reply: Reply) -> u16
+    ensures { λ r. ⌜ r ≡ replyCode reply ⌝ }
+{
+    match reply {
+        Reply::Answered(answer) => number_of(answer),
+        Reply::Refused(n) => 256 + n as u16,
+    }
+}
+
+// In how many steps has the area access to the object? 255 for no access, 256 + n for refusal n.
+#[no_mangle]
+pub extern "C" fn panelrights_access(state: &[u8], area: u8, object: u8) -> u16
+    ensures { λ r. ⌜ r ≡ accessNumber (now (state .entry)) area object ⌝ }
+{
+    code_of(machine::ask(records::state_of(state), area, object))
+}
+
+// Reads a site file: 0 and its state, or 21 to 29 and the founding state; 31 and no byte written, if the state's buffer has another length than a record.
+#[no_mangle]
+pub extern "C" fn panelrights_read_file<'a>(file: &'a [u8], state: &'a mut [u8]) -> u8
+    ensures number { λ r. ⌜ r ≡ fileNumber (now (file .entry)) (now (state .entry)) ⌝ }
+    ensures buffer { λ _. ⌜ now (state .exit) ≡ fileBuffer (now (file .entry)) (now (state .entry)) ⌝ }
+{
+    let reading = site_file::read(file);
+    let found = reading.state;
+    let missized = records::write(found, state);
+    if missized != 0 {
+        return missized;
+    }
+    reading.refusal
+}
+
+// Where the text of the area's label stands in the file: offset * 65536 + length, 0 if there is none.
+#[no_mangle]
+pub extern "C" fn panelrights_label(file: &[u8], area: u8) -> u32
+    ensures { λ r. ⌜ r ≡ labelNumber (now (file .entry)) area ⌝ }
+{
+    let place = site_file::label_place(file, area);
+    place.at as u32 * 65536 + place.length as u32
+}
+
+// The place (0 to 7) of the lowest mark set in the byte, 8 if none.
+#[no_mangle]
+pub extern "C" fn panelrights_lowest_mark(marks: u8) -> u8
+    ensures { λ r. ⌜ r ≡ lowest marks ⌝ }
+{
+    marks::lowest_mark(marks)
+}

@@ -1,0 +1,119 @@
+-- `records::write` meets its contract: each set or relation is laid behind the one before it, and together they fill the buffer.
+-- Assumes nothing.
+use Prim.Native.Nat.{ℕ}
+use mathlib.Core.Path.{_≡_, sym, ap, _∙_}
+use mathlib.Core.Bool.{Bool, true, false, cond}
+use mathlib.Core.List.{List, _++_}
+use native.Mathlib.Omega.{arith}
+use borrow.Author.Tests.{eq-eqb, ne-eqb}
+use denote.Ref.{now}
+use lib.Dec.{eqb}
+use lib.ListN.{length}
+use Rattle.state.specs.Site.{user, area, object, owner, definition, structure, import, export, Shaped}
+use Rattle.state.specs.declared.State.{State}
+use Rattle.state.proofs.Typed.{shaped-by-type}
+use Rattle.records.specs.Record.{recordSize, places, bytesOf, isSized, numberFor, stored}
+use Rattle.records.proofs.Lay.{Front, front-first, front-more, front-length, front-whole}
+use Rattle.records.proofs.write.Statement.{statement}
+use Rattle.records.proofs.write.Tie as tie
+
+-- by how the test of the length came out
+numbered : (b : List ℕ) (v : Bool) → isSized b ≡ v → numberFor b ≡ cond v 0 31
+numbered b v e = ap (λ (w : Bool). cond w 0 31) e
+
+kept : (b : List ℕ) (s : State) (v : Bool) → isSized b ≡ v → stored b s ≡ cond v (bytesOf s) b
+unfolding stored
+kept b s v e = ap (λ (w : Bool). cond w (bytesOf s) b) e
+
+whole : (b : List ℕ) (s : State) (l : List ℕ) → length b ≡ recordSize → Front b recordSize (places s) l → l ≡ bytesOf s
+unfolding bytesOf
+whole b s l h t = front-whole b recordSize (places s) l h t
+
+-- the state and the buffer that were handed over
+shaped : (c : tie.Start) → Shaped (c .args .t1)
+shaped c = shaped-by-type (c .args .t1) _ (c .good .0 .1 .1)
+
+sized : (c : tie.Else1) → length (now (c .before .before .args .buffer)) ≡ recordSize
+sized c = c .if1 .left
+
+-- what is laid after each call
+laid1 : (c : tie.After-write-cells) → let s = c .before .before .before .before .before .before .before .args .t1 in Front (now (c .before .before .before .before .before .before .before .args .buffer)) 32 (s .users) (c .write-cells .last .0)
+laid1 c = front-first _ 32 _ (shaped (c .before .before .before .before .before .before .before) .sets user) (c .write-cells .ensures)
+
+laid2 : (c : tie.After-write-cells2) → let s = c .before .before .before .before .before .before .before .before .before .before .before .before .before .before .args .t1 in Front (now (c .before .before .before .before .before .before .before .before .before .before .before .before .before .before .args .buffer)) 64 (s .users ++ s .areas) (c .write-cells2 .last .0)
+laid2 c = front-more _ 32 32 _ _ (shaped (c .before .before .before .before .before .before .before .before .before .before .before .before .before .before) .sets area) (c .write-cells2 .ensures) (laid1 (c .before .before .before .before .before .before .before))
+
+laid3 : (c : tie.After-write-cells3) → let s = c .before .before .before .before .before .before .before .before .before .before .before .before .before .before .before .before .before .before .before .before .before .args .t1 in Front (now (c .before .before .before .before .before .before .before .before .before .before .before .before .before .before .before .before .before .before .before .before .before .args .buffer)) 128 (s .users ++ s .areas ++ s .objects) (c .write-cells3 .last .0)
+laid3 c = front-more _ 64 64 _ _ (shaped (c .before .before .before .before .before .before .before .before .before .before .before .before .before .before .before .before .before .before .before .before .before) .sets object) (c .write-cells3 .ensures) (laid2 (c .before .before .before .before .before .before .before))
+
+laid4 : (c : tie.After-write-cells4) → let s = c .before .before .before .before .before .before .before .before .before .before .before .before .before .before .before .before .before .before .before .before .before .before .before .before .before .before .before .before .args .t1 in Front (now (c .before .before .before .before .before .before .before .before .before .before .before .before .before .before .before .before .before .before .before .before .before .before .before .before .before .before .before .before .args .buffer)) 1152 (s .users ++ s .areas ++ s .objects ++ s .owners) (c .write-cells4 .last .0)
+laid4 c = front-more _ 128 1024 _ _ (shaped (c .before .before .before .before .before .before .before .before .before .before .before .before .before .before .before .before .before .before .before .before .before .before .before .before .before .before .before .before) .relations owner) (c .write-cells4 .ensures) (laid3 (c .before .before .before .before .before .before .before))
+
+laid5 : (c : tie.After-write-cells5) → let s = c .before .before .before .before .before .before .before .before .before .before .before .before .before .before .before .before .before .before .before .before .before .before .before .before .before .before .before .before .before .before .before .before .before .before .before .args .t1 in Front (now (c .before .before .before .before .before .before .before .before .before .before .before .before .before .before .before .before .before .before .before .before .before .before .before .before .before .before .before .before .before .before .before .before .before .before .before .args .buffer)) 3200 (s .users ++ s .areas ++ s .objects ++ s .owners ++ s .definitions) (c .write-cells5 .last .0)
+laid5 c = front-more _ 1152 2048 _ _ (shaped (c .before .before .before .before .before .before .before .before .before .before .before .before .before .before .before .before .before .before .before .before .before .before .before .before .before .before .before .before .before .before .before .before .before .before .before) .relations definition) (c .write-cells5 .ensures) (laid4 (c .before .before .before .before .before .before .before))
+
+laid6 : (c : tie.After-write-cells6) → let s = c .before .before .before .before .before .before .before .before .before .before .before .before .before .before .before .before .before .before .before .before .before .before .before .before .before .before .before .before .before .before .before .before .before .before .before .before .before .before .before .before .before .before .args .t1 in Front (now (c .before .before .before .before .before .before .before .before .before .before .before .before .before .before .before .before .before .before .before .before .before .before .before .before .before .before .before .before .before .before .before .before .before .before .before .before .before .before .before .before .before .before .args .buffer)) 4224 (s .users ++ s .areas ++ s .objects ++ s .owners ++ s .definitions ++ s .structure) (c .write-cells6 .last .0)
+laid6 c = front-more _ 3200 1024 _ _ (shaped (c .before .before .before .before .before .before .before .before .before .before .before .before .before .before .before .before .before .before .before .before .before .before .before .before .before .before .before .before .before .before .before .before .before .before .before .before .before .before .before .before .before .before) .relations structure) (c .write-cells6 .ensures) (laid5 (c .before .before .before .before .before .before .before))
+
+laid7 : (c : tie.After-write-cells7) → let s = c .before .before .before .before .before .before .before .before .before .before .before .before .before .before .before .before .before .before .before .before .before .before .before .before .before .before .before .before .before .before .before .before .before .before .before .before .before .before .before .before .before .before .before .before .before .before .before .before .before .args .t1 in Front (now (c .before .before .before .before .before .before .before .before .before .before .before .before .before .before .before .before .before .before .before .before .before .before .before .before .before .before .before .before .before .before .before .before .before .before .before .before .before .before .before .before .before .before .before .before .before .before .before .before .before .args .buffer)) 6272 (s .users ++ s .areas ++ s .objects ++ s .owners ++ s .definitions ++ s .structure ++ s .imports) (c .write-cells7 .last .0)
+laid7 c = front-more _ 4224 2048 _ _ (shaped (c .before .before .before .before .before .before .before .before .before .before .before .before .before .before .before .before .before .before .before .before .before .before .before .before .before .before .before .before .before .before .before .before .before .before .before .before .before .before .before .before .before .before .before .before .before .before .before .before .before) .relations import) (c .write-cells7 .ensures) (laid6 (c .before .before .before .before .before .before .before))
+
+laid8 : (c : tie.After-write-cells8) → let s = c .before .before .before .before .before .before .before .before .before .before .before .before .before .before .before .before .before .before .before .before .before .before .before .before .before .before .before .before .before .before .before .before .before .before .before .before .before .before .before .before .before .before .before .before .before .before .before .before .before .before .before .before .before .before .before .before .args .t1 in Front (now (c .before .before .before .before .before .before .before .before .before .before .before .before .before .before .before .before .before .before .before .before .before .before .before .before .before .before .before .before .before .before .before .before .before .before .before .before .before .before .before .before .before .before .before .before .before .before .before .before .before .before .before .before .before .before .before .before .args .buffer)) 8320 (s .users ++ s .areas ++ s .objects ++ s .owners ++ s .definitions ++ s .structure ++ s .imports ++ s .exports) (c .write-cells8 .last .0)
+laid8 c = front-more _ 6272 2048 _ _ (shaped (c .before .before .before .before .before .before .before .before .before .before .before .before .before .before .before .before .before .before .before .before .before .before .before .before .before .before .before .before .before .before .before .before .before .before .before .before .before .before .before .before .before .before .before .before .before .before .before .before .before .before .before .before .before .before .before .before) .relations export) (c .write-cells8 .ensures) (laid7 (c .before .before .before .before .before .before .before))
+
+returns : tie.Need-returns
+returns c =
+    let buffer = now (c .before .before .args .buffer) in
+    let other = ne-eqb (length buffer) recordSize (c .if1 .taken) in
+    (sym (numbered buffer false other), sym (kept buffer (c .before .before .args .t1) false other))
+
+write-cells-requires : tie.Need-write-cells-requires
+write-cells-requires c κs = omega (arith, sized (c .before .before .before .before), shaped (c .before .before .before .before .before .before) .sets user)
+
+write-cells-requires-2 : tie.Need-write-cells-requires-2
+write-cells-requires-2 c κs = omega (arith, sized (c .before .before .before .before .before .before .before .before .before .before .before), front-length _ _ _ _ (laid1 (c .before .before .before .before .before .before)), shaped (c .before .before .before .before .before .before .before .before .before .before .before .before .before) .sets area)
+
+write-cells-requires-3 : tie.Need-write-cells-requires-3
+write-cells-requires-3 c κs = omega (arith, sized (c .before .before .before .before .before .before .before .before .before .before .before .before .before .before .before .before .before .before), front-length _ _ _ _ (laid2 (c .before .before .before .before .before .before)), shaped (c .before .before .before .before .before .before .before .before .before .before .before .before .before .before .before .before .before .before .before .before) .sets object)
+
+write-cells-requires-4 : tie.Need-write-cells-requires-4
+write-cells-requires-4 c κs = omega (arith, sized (c .before .before .before .before .before .before .before .before .before .before .before .before .before .before .before .before .before .before .before .before .before .before .before .before .before), front-length _ _ _ _ (laid3 (c .before .before .before .before .before .before)), shaped (c .before .before .before .before .before .before .before .before .before .before .before .before .before .before .before .before .before .before .before .before .before .before .before .before .before .before .before) .relations owner)
+
+write-cells-requires-5 : tie.Need-write-cells-requires-5
+write-cells-requires-5 c κs = omega (arith, sized (c .before .before .before .before .before .before .before .before .before .before .before .before .before .before .before .before .before .before .before .before .before .before .before .before .before .before .before .before .before .before .before .before), front-length _ _ _ _ (laid4 (c .before .before .before .before .before .before)), shaped (c .before .before .before .before .before .before .before .before .before .before .before .before .before .before .before .before .before .before .before .before .before .before .before .before .before .before .before .before .before .before .before .before .before .before) .relations definition)
+
+write-cells-requires-6 : tie.Need-write-cells-requires-6
+write-cells-requires-6 c κs = omega (arith, sized (c .before .before .before .before .before .before .before .before .before .before .before .before .before .before .before .before .before .before .before .before .before .before .before .before .before .before .before .before .before .before .before .before .before .before .before .before .before .before .before), front-length _ _ _ _ (laid5 (c .before .before .before .before .before .before)), shaped (c .before .before .before .before .before .before .before .before .before .before .before .before .before .before .before .before .before .before .before .before .before .before .before .before .before .before .before .before .before .before .before .before .before .before .before .before .before .before .before .before .before) .relations structure)
+
+write-cells-requires-7 : tie.Need-write-cells-requires-7
+write-cells-requires-7 c κs = omega (arith, sized (c .before .before .before .before .before .before .before .before .before .before .before .before .before .before .before .before .before .before .before .before .before .before .before .before .before .before .before .before .before .before .before .before .before .before .before .before .before .before .before .before .before .before .before .before .before .before), front-length _ _ _ _ (laid6 (c .before .before .before .before .before .before)), shaped (c .before .before .before .before .before .before .before .before .before .before .before .before .before .before .before .before .before .before .before .before .before .before .before .before .before .before .before .before .before .before .before .before .before .before .before .before .before .before .before .before .before .before .before .before .before .before .before .before) .relations import)
+
+write-cells-requires-8 : tie.Need-write-cells-requires-8
+write-cells-requires-8 c κs = omega (arith, sized (c .before .before .before .before .before .before .before .before .before .before .before .before .before .before .before .before .before .before .before .before .before .before .before .before .before .before .before .before .before .before .before .before .before .before .before .before .before .before .before .before .before .before .before .before .before .before .before .before .before .before .before .before .before), front-length _ _ _ _ (laid7 (c .before .before .before .before .before .before)), shaped (c .before .before .before .before .before .before .before .before .before .before .before .before .before .before .before .before .before .before .before .before .before .before .before .before .before .before .before .before .before .before .before .before .before .before .before .before .before .before .before .before .before .before .before .before .before .before .before .before .before .before .before .before .before .before .before) .relations export)
+
+same-length : tie.Need-same-length
+same-length c = front-length _ _ _ _ (laid8 (c .before .before))
+
+returns-2 : tie.Need-returns-2
+returns-2 c =
+    let tested = c .before .before .before .before .before .before .before .before .before .before .before .before .before .before .before .before .before .before .before .before .before .before .before .before .before .before .before .before .before .before .before .before .before .before .before .before .before .before .before .before .before .before .before .before .before .before .before .before .before .before .before .before .before .before .before .before in
+    let buffer = now (tested .before .before .args .buffer) in
+    let long = sized tested in
+    let fits = eq-eqb (length buffer) recordSize long in
+    (sym (numbered buffer true fits), whole buffer _ _ long (laid8 (c .before .before)) ∙ sym (kept buffer _ true fits))
+
+pub write-spec : {M : Type 1} → statement M
+write-spec =
+    tie.close
+    (tie.spec
+    returns
+    write-cells-requires
+    write-cells-requires-2
+    write-cells-requires-3
+    write-cells-requires-4
+    write-cells-requires-5
+    write-cells-requires-6
+    write-cells-requires-7
+    write-cells-requires-8
+    same-length
+    returns-2)

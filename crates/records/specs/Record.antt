@@ -1,0 +1,98 @@
+-- The record of a state as bytes, as programs in other languages keep it: one byte a place, 1 where a number is listed or a pair is there, and 0 where not.
+--     listStart, pairStart, recordSize     where each set and each relation begins, and how many bytes there are
+--     places, bytesOf                      the places of a state, and the bytes of its record
+--     isRecord, stateOf                    whether bytes are a record, and of which state
+--     laid, isSized, numberFor, stored     a state written into a buffer
+use Prim.Native.Nat.{ℕ, _+_, _*_}
+use mathlib.Core.Bool.{Bool, _&&_, cond}
+use mathlib.Core.List.{List, _++_, map}
+use lib.Dec.{eqb, ltb}
+use lib.ListN.{length, getD}
+use lib.Seq.{sets}
+use Rattle.state.specs.Below.{eachBelow}
+use Rattle.state.specs.Tabulate.{tabulate}
+use Rattle.state.specs.Cells.{width}
+use Rattle.state.specs.Site.{Kind, user, area, object, limit, Relation, owner, definition, structure, import, export, firstKind, recordOf, empty}
+use Rattle.state.specs.declared.State.{State}
+
+-- users 32, areas 32, objects 64: where the byte of number 0 stands
+abbrev pub listStart : Kind → ℕ
+listStart user = 0
+listStart area = 32
+listStart object = 64
+
+-- owners 1,024, definitions 2,048, structure 1,024, imports 2,048, exports 2,048: where the byte of the pair (0, 0) stands; that of (i, j) is i * 32 + j bytes further
+abbrev pub pairStart : Relation → ℕ
+pairStart owner = 128
+pairStart definition = 1152
+pairStart structure = 3200
+pairStart import = 4224
+pairStart export = 6272
+
+-- 8,320 bytes in all
+abbrev pub recordSize : ℕ
+recordSize = 8320
+
+-- ---- the record of a state
+abbrev pub bit : Bool → ℕ
+bit v = cond v 1 0
+
+abbrev pub bits : List Bool → List ℕ
+bits cells = map bit cells
+
+-- the places in their order: users, areas, objects, owners, definitions, structure, imports, exports
+abbrev pub places : State → List Bool
+places s = s .users ++ s .areas ++ s .objects ++ s .owners ++ s .definitions ++ s .structure ++ s .imports ++ s .exports
+
+-- one byte a place
+unfoldable pub bytesOf : State → List ℕ
+bytesOf s = bits (places s)
+
+-- ---- the state of a record
+-- byte k is 0 or 1
+abbrev pub isBit : (bytes : List ℕ) → ℕ → Bool
+isBit bytes k = ltb (getD bytes k 0) 2
+
+-- as many bytes as a record has, each 0 or 1
+unfoldable pub isRecord : (bytes : List ℕ) → Bool
+isRecord bytes = eqb (length bytes) recordSize && eachBelow (length bytes) (isBit bytes)
+
+-- place i behind `at` holds something: its byte is 1
+abbrev pub isSet : (bytes : List ℕ) (at i : ℕ) → Bool
+isSet bytes at i = eqb (getD bytes (at + i) 0) 1
+
+-- the n places from `at` on
+abbrev pub cellsAt : (bytes : List ℕ) (at n : ℕ) → List Bool
+cellsAt bytes at n = tabulate n (isSet bytes at)
+
+abbrev pub listAt : (bytes : List ℕ) → Kind → List Bool
+listAt bytes k = cellsAt bytes (listStart k) (limit k)
+
+abbrev pub pairsAt : (bytes : List ℕ) → Relation → List Bool
+pairsAt bytes r = cellsAt bytes (pairStart r) (limit (firstKind r) * width)
+
+-- the state that the places hold
+abbrev pub stateAt : (bytes : List ℕ) → State
+stateAt bytes =
+    recordOf (listAt bytes user) (listAt bytes area) (listAt bytes object) (pairsAt bytes owner) (pairsAt bytes definition) (pairsAt bytes structure) (pairsAt bytes import) (pairsAt bytes export)
+
+-- the state whose record the bytes are; bytes that are no record give the state of nothing, which is not sound
+unfoldable pub stateOf : (bytes : List ℕ) → State
+stateOf bytes = cond (isRecord bytes) (stateAt bytes) empty
+
+-- ---- a state written into a buffer
+-- the buffer, with the cells written over it as bytes from `at` on
+unfoldable pub laid : (buffer : List ℕ) (at : ℕ) → List Bool → List ℕ
+laid buffer at cells = sets buffer at (bits cells)
+
+-- the buffer has the length of a record
+abbrev pub isSized : (buffer : List ℕ) → Bool
+isSized buffer = eqb (length buffer) recordSize
+
+-- 0; or 31, document 02's number for a buffer that does not do
+abbrev pub numberFor : (buffer : List ℕ) → ℕ
+numberFor buffer = cond (isSized buffer) 0 31
+
+-- the record of the state; no byte changed in a buffer of another length
+unfoldable pub stored : (buffer : List ℕ) → State → List ℕ
+stored buffer s = cond (isSized buffer) (bytesOf s) buffer
