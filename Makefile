@@ -1,6 +1,10 @@
 # The commands of this repository; README.md says what each is for.
 
-.PHONY: run test bench clean
+PREFIX = /usr/local
+DESTDIR =
+CFLAGS = -std=c99 -O2 -Wall -Wextra -pedantic
+
+.PHONY: run lib install examples test bench clean
 
 run:
 	@rt check panelrights
@@ -10,12 +14,31 @@ run:
 	@echo
 	@echo 'On a file of your own: target/bin/panelrights <FILE'
 
+lib:
+	@mkdir -p target/lib
+	@rt staticlib capi >target/staticlib.log || { cat target/staticlib.log; exit 1; }
+	@cmp -s target/staticlib/libcapi.a target/lib/libpanelrights.a || cp target/staticlib/libcapi.a target/lib/libpanelrights.a
+
+install: lib
+	@sed 's|@PREFIX@|$(PREFIX)|' panelrights.pc.in >target/lib/panelrights.pc
+	install -d '$(DESTDIR)$(PREFIX)/include' '$(DESTDIR)$(PREFIX)/lib/pkgconfig'
+	install -m 644 include/panelrights.h '$(DESTDIR)$(PREFIX)/include'
+	install -m 644 target/lib/libpanelrights.a '$(DESTDIR)$(PREFIX)/lib'
+	install -m 644 target/lib/panelrights.pc '$(DESTDIR)$(PREFIX)/lib/pkgconfig'
+
+examples: lib
+	@mkdir -p target/examples
+	@$(CC) $(CFLAGS) -Iinclude examples/handover.c -Ltarget/lib -lpanelrights -o target/examples/handover-c
+	@CARGO_TARGET_DIR=target/cargo cargo build --quiet --locked --release --manifest-path examples/handover-rust/Cargo.toml
+	@cp target/cargo/release/handover target/examples/handover-rust
+	@target/examples/handover-c examples/school.site
+	@echo
+	@echo 'On a site file of your own: target/examples/handover-c FILE, or handover-rust'
+
 test:
 	@tests/gate.sh
 
-bench:
-	@mkdir -p target
-	@rt staticlib probe >target/staticlib.log || { cat target/staticlib.log; exit 1; }
+bench: lib
 	@rt check panelrights >target/panelrights.log || { cat target/panelrights.log; exit 1; }
 	@CARGO_TARGET_DIR=target/cargo cargo run --quiet --release --manifest-path bench/Cargo.toml
 

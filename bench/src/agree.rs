@@ -1,26 +1,74 @@
-//! Compares the answers of the library and of plain Rust.
+//! Compares the library with the two baselines. Where they differ the run stops, and says in what.
 
-use crate::chance::Chance;
-use crate::record::{Bytes, Record};
-use crate::{library, plain};
+use crate::random::{self, Span};
+use crate::record::{Record, RECORD_BYTES};
+use crate::rows::Rows;
+use crate::rules::{Bytes, NO_ACCESS, REFUSED};
+use crate::{files, ideal, ideal_reader, library, plain, plain_reader};
+use chance::Chance;
 
-/// Both take the step, and answer alike: the refusal, 0 for none, and the state after it.
-pub fn agreed(s: &Record, bytes: Bytes) -> (u8, Record) {
-    let mut after = s.clone();
-    let refusal = library::step(&mut after, bytes, 1);
-    let (plain_refusal, plain_after) = match plain::step(s, bytes) {
+/// Demands one answer, and the state of the plain baseline from the other two as well.
+fn demand(answers: [u16; 3], states: [bool; 2], asked: impl FnOnce() -> String) {
+    let [library, plain, ideal] = answers;
+    assert!(
+        library == plain && plain == ideal && states == [true, true],
+        "The library answers {library}, plain Rust {plain}, ideal Rust {ideal}; \
+         the state of the library is that of plain Rust: {}, that of ideal Rust: {}. {}",
+        states[0],
+        states[1],
+        asked()
+    );
+}
+
+/// The refusal, 0 for none, and the state after the instruction.
+pub fn step(s: &Record, bytes: Bytes) -> (u8, Record) {
+    let mut state = s.bytes();
+    let by_library = library::step(&mut state, bytes);
+    let mut rows = Rows::of(s);
+    let by_ideal = ideal::step(&mut rows, bytes);
+    let (refusal, after) = match plain::step(s, bytes) {
         Ok(next) => (0, next),
         Err(refusal) => (refusal, s.clone()),
     };
-    if refusal != plain_refusal || after != plain_after {
-        println!(
-            "{bytes:?}: the library {refusal}, plain Rust {plain_refusal}, the states alike: {}",
-            after == plain_after
-        );
-        println!("{}", tell(s));
-        panic!("the library and plain Rust differ");
-    }
+    let alike = [state == after.bytes(), rows == Rows::of(&after)];
+    let asked = || format!("The instruction {bytes:?} in the state of {}", tell(s));
+    demand([by_library, refusal, by_ideal].map(u16::from), alike, asked);
     (refusal, after)
+}
+
+/// The answer to the access question.
+pub fn access(s: &Record, area: u8, object: u8) -> u16 {
+    let answer = plain::access(s, area, object);
+    let answers = [
+        library::access(&s.bytes(), area, object),
+        answer,
+        ideal::access(&Rows::of(s), area, object),
+    ];
+    demand(answers, [true, true], || {
+        format!("Area {area} and object {object} in the state of {}", tell(s))
+    });
+    answer
+}
+
+/// The refusal of the file, 0 for none.
+pub fn read(file: &[u8]) -> u8 {
+    // No record, so that whatever the library leaves as it was is seen.
+    let mut state = [7; RECORD_BYTES];
+    let by_library = library::read(file, &mut state);
+    let founding = Record::founding();
+    let (by_ideal, rows) = match ideal_reader::read(file) {
+        Ok(rows) => (0, rows),
+        Err(refusal) => (refusal, Rows::of(&founding)),
+    };
+    let (refusal, s) = match plain_reader::read(file) {
+        Ok(s) => (0, s),
+        Err(refusal) => (refusal, founding),
+    };
+    let alike = [state == s.bytes(), rows == Rows::of(&s)];
+    demand([by_library, refusal, by_ideal].map(u16::from), alike, || {
+        format!("The file {file:?}")
+    });
+    refusal
 }
 
 /// The record by its numbers and pairs.
@@ -28,7 +76,8 @@ fn tell(s: &Record) -> String {
     let members = |list: &[bool]| -> Vec<usize> { (0..list.len()).filter(|&i| list[i]).collect() };
     let pairs = |list: &[bool]| -> Vec<(usize, usize)> { members(list).iter().map(|&at| (at / 32, at % 32)).collect() };
     format!(
-        "users {:?}, areas {:?}, objects {:?}, owners {:?}, definitions {:?}, structure {:?}, imports {:?}, exports {:?}",
+        "users {:?}, areas {:?}, objects {:?}, owners {:?}, definitions {:?}, structure {:?}, imports {:?}, \
+         exports {:?}",
         members(&s.users),
         members(&s.areas),
         members(&s.objects),
@@ -40,36 +89,92 @@ fn tell(s: &Record) -> String {
     )
 }
 
-/// Walks of random instructions from the founding state, over few numbers and over all; on the way damaged records, and the access question.
-pub fn compare(count: u32) {
-    const SPANS: [[usize; 3]; 5] = [[2, 2, 1], [3, 3, 2], [4, 6, 3], [8, 12, 8], [32, 32, 64]];
+/// How often each answer was seen.
+#[derive(Default)]
+struct Seen {
+    /// By refusal, 0 to 12.
+    steps: [u32; 13],
+    /// A number of steps, no access, refusal 12, 2, 4.
+    questions: [u32; 5],
+    /// By refusal: 0, 21 to 29.
+    files: [u32; 10],
+}
+
+impl Seen {
+    fn step(&mut self, s: &Record, bytes: Bytes) -> Record {
+        let (refusal, after) = step(s, bytes);
+        self.steps[usize::from(refusal)] += 1;
+        after
+    }
+
+    fn question(&mut self, s: &Record, [area, object]: [u8; 2]) {
+        const OTHERS: [u16; 4] = [NO_ACCESS as u16, REFUSED + 12, REFUSED + 2, REFUSED + 4];
+        let answer = access(s, area, object);
+        let kind = OTHERS.iter().position(|&other| other == answer).map_or(0, |i| i + 1);
+        self.questions[kind] += 1;
+    }
+
+    fn file(&mut self, file: &[u8]) {
+        let refusal = read(file);
+        self.files[usize::from(refusal.saturating_sub(20))] += 1;
+    }
+
+    fn lines(&self) -> [String; 3] {
+        let Seen {
+            steps,
+            questions,
+            files,
+        } = self;
+        let every = [&steps[..], questions, files].concat();
+        assert!(
+            !every.contains(&0),
+            "an answer was never seen: {steps:?}, {questions:?}, {files:?}"
+        );
+        [
+            format!("agree: instructions answered 0 to 12: {steps:?}"),
+            format!("agree: questions answered by steps, no access, 12, 2, 4: {questions:?}"),
+            format!("agree: files answered 0, 21 to 29: {files:?}"),
+        ]
+    }
+
+    /// A question within the span, at times one out of all range; at times the state's file, and that file damaged.
+    fn state(&mut self, chance: &mut Chance, s: &Record, [_, areas, objects]: Span) {
+        let mut question = [chance.below(areas) as u8, chance.below(objects) as u8];
+        if chance.once_in(16) {
+            question = random::wild(chance, question);
+        }
+        self.question(s, question);
+        if chance.once_in(4) {
+            let file = files::file(s);
+            self.file(&file);
+            self.file(&random::damaged_file(chance, file));
+        }
+    }
+}
+
+/// Walks of random instructions from the founding state, over few numbers and over all; on the way damaged records, the
+/// access question and files. Gives lines on what was seen.
+pub fn compare(count: u32) -> [String; 3] {
+    const SPANS: [Span; 5] = [[2, 2, 1], [3, 3, 2], [4, 6, 3], [8, 12, 8], random::WHOLE];
     let mut chance = Chance::new(2);
-    let mut seen = [0u32; 13];
+    let mut seen = Seen::default();
     let mut s = Record::founding();
     for i in 0..count {
         let span = SPANS[(i / 2_000) as usize % SPANS.len()];
         if i % 2_000 == 0 {
             s = Record::founding();
         }
-        let mut bytes = chance.instruction(&s, span);
+        let mut bytes = random::instruction(&mut chance, &s, span);
         if chance.once_in(16) {
-            bytes = chance.wild(bytes);
+            bytes = random::wild(&mut chance, bytes);
         }
         if chance.once_in(16) {
-            let (refusal, _) = agreed(&chance.damaged(&s, span), bytes);
-            seen[refusal as usize] += 1;
+            let damaged = random::damaged(&mut chance, &s, span);
+            seen.step(&damaged, bytes);
+            seen.state(&mut chance, &damaged, span);
         }
-        let (refusal, after) = agreed(&s, bytes);
-        seen[refusal as usize] += 1;
-        s = after;
-        let (area, object) = (chance.below(span[1]) as u8, chance.below(span[2]) as u8);
-        assert_eq!(
-            library::steps(&s, area, object),
-            plain::steps(&s, area, object),
-            "area {area}, object {object} of {}",
-            tell(&s)
-        );
+        s = seen.step(&s, bytes);
+        seen.state(&mut chance, &s, span);
     }
-    assert!(!seen.contains(&0), "a refusal number was never seen: {seen:?}");
-    println!("the library and plain Rust agree; times answered 0 to 12: {seen:?}");
+    seen.lines()
 }

@@ -1,112 +1,23 @@
-//! The library's functions over the C interface, declared as crates/probe/src/lib.rt has them: a slice is a pointer and a length, an array a pointer.
+//! The library as a C program calls it: the functions of include/panelrights.h, on the bytes of a record.
 
-use crate::record::{Bytes, Record};
+use crate::record::RecordBytes;
+use crate::rules::Bytes;
+use panelrights::sys;
 
-extern "C" {
-    fn probe_steps(
-        definitions: *const bool,
-        definitions_len: usize,
-        structure: *const bool,
-        imports: *const bool,
-        imports_len: usize,
-        exports: *const bool,
-        exports_len: usize,
-        area: u8,
-        object: u8,
-    ) -> u8;
-
-    fn probe_step(
-        users: *mut bool,
-        areas: *mut bool,
-        objects: *mut bool,
-        owners: *mut bool,
-        definitions: *mut bool,
-        structure: *mut bool,
-        imports: *mut bool,
-        exports: *mut bool,
-        code: u8,
-        activator: u8,
-        a: u8,
-        b: u8,
-        turns: u32,
-    ) -> u8;
-
-    fn probe_sound(
-        users: *const bool,
-        areas: *const bool,
-        objects: *const bool,
-        owners: *const bool,
-        definitions: *const bool,
-        structure: *const bool,
-        imports: *const bool,
-        exports: *const bool,
-        turns: u32,
-    ) -> bool;
-
-    fn probe_read(file: *const u8, file_len: usize, turns: u32) -> u8;
+/// Obeys the instruction and gives 0, or gives its refusal and leaves the record as it was.
+pub fn step(state: &mut RecordBytes, [code, activator, a, b]: Bytes) -> u8 {
+    // SAFETY: the pointer and the length are those of an array that is borrowed for the call.
+    unsafe { sys::panelrights_step(state.as_mut_ptr(), state.len(), code, activator, a, b) }
 }
 
-/// The number of steps in a shortest chain, 255 for no access.
-pub fn steps(s: &Record, area: u8, object: u8) -> u8 {
-    // SAFETY: each pointer is that of a live array of bools, handed over with its length; `structure` has 1,024.
-    unsafe {
-        probe_steps(
-            s.definitions.as_ptr(),
-            s.definitions.len(),
-            s.structure.as_ptr(),
-            s.imports.as_ptr(),
-            s.imports.len(),
-            s.exports.as_ptr(),
-            s.exports.len(),
-            area,
-            object,
-        )
-    }
+/// The number of steps, 255 for no access, or 256 and the refusal.
+pub fn access(state: &RecordBytes, area: u8, object: u8) -> u16 {
+    // SAFETY: as above.
+    unsafe { sys::panelrights_access(state.as_ptr(), state.len(), area, object) }
 }
 
-/// Takes the step `turns` times from the same record, and leaves the state after it there.
-pub fn step(s: &mut Record, bytes: Bytes, turns: u32) -> u8 {
-    let [code, activator, a, b] = bytes;
-    // SAFETY: each pointer is that of an array of the length that the library has for it, and no two arrays overlap.
-    unsafe {
-        probe_step(
-            s.users.as_mut_ptr(),
-            s.areas.as_mut_ptr(),
-            s.objects.as_mut_ptr(),
-            s.owners.as_mut_ptr(),
-            s.definitions.as_mut_ptr(),
-            s.structure.as_mut_ptr(),
-            s.imports.as_mut_ptr(),
-            s.exports.as_mut_ptr(),
-            code,
-            activator,
-            a,
-            b,
-            turns,
-        )
-    }
-}
-
-/// Asks `turns` times whether the record is sound.
-pub fn sound(s: &Record, turns: u32) -> bool {
-    // SAFETY: each pointer is that of an array of the length that the library has for it.
-    unsafe {
-        probe_sound(
-            s.users.as_ptr(),
-            s.areas.as_ptr(),
-            s.objects.as_ptr(),
-            s.owners.as_ptr(),
-            s.definitions.as_ptr(),
-            s.structure.as_ptr(),
-            s.imports.as_ptr(),
-            s.exports.as_ptr(),
-            turns,
-        )
-    }
-}
-
-/// Reads the file `turns` times: its refusal, 0 if it is accepted.
-pub fn read(file: &[u8], turns: u32) -> u8 {
-    // SAFETY: the pointer is that of a live slice, handed over with its length.
-    unsafe { probe_read(file.as_ptr(), file.len(), turns) }
+/// The refusal of the file, 0 for none; the record becomes that of its state, or of the founding state.
+pub fn read(file: &[u8], state: &mut RecordBytes) -> u8 {
+    // SAFETY: as above, for both; a borrowed slice and an array borrowed to be written don't overlap.
+    unsafe { sys::panelrights_read_file(file.as_ptr(), file.len(), state.as_mut_ptr(), state.len()) }
 }

@@ -1,8 +1,7 @@
-//! The access question and the step in plain Rust on the same cells, from document 01.
+//! The plain baseline: document 01 in plain Rust on bools, with a queue for the search.
 
-use crate::record::{cell, Bytes, Record, AREAS, OBJECTS, USERS};
-
-pub const NO_ACCESS: u8 = 255;
+use crate::record::{cell, Record};
+use crate::rules::{self, Bytes, Instruction, AREAS, NO_ACCESS, OBJECTS, REFUSED, USERS};
 
 /// For each area the number of steps in a shortest chain: a search with a queue.
 fn counts(s: &Record, object: usize) -> [u8; AREAS] {
@@ -10,8 +9,8 @@ fn counts(s: &Record, object: usize) -> [u8; AREAS] {
     let mut counts = [NO_ACCESS; AREAS];
     let mut queue = [0; AREAS];
     let (mut head, mut tail) = (0, 0);
-    for a in 0..AREAS {
-        if s.definitions[row + a] {
+    for (a, &defined) in s.definitions[row..row + AREAS].iter().enumerate() {
+        if defined {
             counts[a] = 0;
             queue[tail] = a;
             tail += 1;
@@ -34,10 +33,6 @@ fn counts(s: &Record, object: usize) -> [u8; AREAS] {
         }
     }
     counts
-}
-
-pub fn steps(s: &Record, area: u8, object: u8) -> u8 {
-    counts(s, object as usize)[area as usize]
 }
 
 /// Each pair names a listed number and a listed area.
@@ -75,7 +70,7 @@ fn is_acceptable(s: &Record) -> bool {
 }
 
 /// Each area that imports or exports an object has access to it.
-fn is_valid(s: &Record) -> bool {
+pub fn is_valid(s: &Record) -> bool {
     for o in 0..OBJECTS {
         let entry = |a: usize| s.imports[cell(o, a)] || s.exports[cell(o, a)];
         if !(0..AREAS).any(entry) {
@@ -89,113 +84,8 @@ fn is_valid(s: &Record) -> bool {
     true
 }
 
-pub fn is_sound(s: &Record) -> bool {
+fn is_sound(s: &Record) -> bool {
     is_consistent(s) && is_acceptable(s) && s.areas.contains(&true) && is_valid(s)
-}
-
-/// Refusals 1 and 2: what the four bytes alone decide.
-fn misfit([code, activator, a, b]: Bytes) -> Option<u8> {
-    let limit = match code {
-        1 | 2 => 1,
-        3 | 4 => USERS,
-        5 | 6 => AREAS,
-        7..=12 => OBJECTS,
-        _ => return Some(1),
-    };
-    let fits = usize::from(activator) < USERS && usize::from(a) < AREAS && usize::from(b) < limit;
-    (!fits).then_some(2)
-}
-
-/// An area that is to be unlisted is still in use: refusal 9.
-fn in_use(s: &Record, user: usize, area: usize) -> bool {
-    (0..USERS).any(|u| u != user && s.owners[cell(u, area)])
-        || (0..OBJECTS).any(|o| s.definitions[cell(o, area)] || s.imports[cell(o, area)] || s.exports[cell(o, area)])
-        || (0..AREAS).any(|c| s.structure[cell(area, c)] || s.structure[cell(c, area)])
-}
-
-/// Refusals 3 to 9: what the given state decides.
-fn barred(s: &Record, code: u8, u: usize, a: usize, b: usize) -> Option<u8> {
-    if !s.users[u] {
-        return Some(3);
-    }
-    let b_listed = match code {
-        4 => s.users[b],
-        5 | 6 => s.areas[b],
-        8..=12 => s.objects[b],
-        _ => true,
-    };
-    if code != 1 && !(s.areas[a] && b_listed) {
-        return Some(4);
-    }
-    let owns = |area: usize| s.owners[cell(u, area)];
-    let entitled = match code {
-        1 => true,
-        5 => owns(a) && owns(b),
-        6 => owns(a) || owns(b),
-        _ => owns(a),
-    };
-    if !entitled {
-        return Some(5);
-    }
-    let present = match code {
-        1 | 2 => s.areas[a],
-        3 | 4 => s.owners[cell(b, a)],
-        5 | 6 => s.structure[cell(a, b)],
-        7 => s.objects[b],
-        8 => s.definitions[cell(b, a)],
-        9 | 10 => s.imports[cell(b, a)],
-        _ => s.exports[cell(b, a)],
-    };
-    let adds = code % 2 == 1;
-    if adds && present {
-        return Some(6);
-    }
-    if !adds && !present {
-        return Some(7);
-    }
-    if code == 4 && (0..USERS).filter(|&v| s.owners[cell(v, a)]).count() == 1 {
-        return Some(8);
-    }
-    if code == 2 && s.areas.iter().filter(|&&listed| listed).count() == 1 {
-        return Some(8);
-    }
-    (code == 2 && in_use(s, u, a)).then_some(9)
-}
-
-fn remove_owner(s: &mut Record, user: usize, area: usize) {
-    s.owners[cell(user, area)] = false;
-    if !owns_an_area(s, user) {
-        s.users[user] = false;
-    }
-}
-
-/// The state that the instruction would give.
-fn successor(s: &Record, code: u8, u: usize, a: usize, b: usize) -> Record {
-    let mut next = s.clone();
-    let adds = code % 2 == 1;
-    match code {
-        1 => {
-            next.areas[a] = true;
-            next.owners[cell(u, a)] = true;
-        }
-        2 => {
-            next.areas[a] = false;
-            remove_owner(&mut next, u, a);
-        }
-        3 => {
-            next.users[b] = true;
-            next.owners[cell(b, a)] = true;
-        }
-        4 => remove_owner(&mut next, b, a),
-        5 | 6 => next.structure[cell(a, b)] = adds,
-        7 | 8 => {
-            next.objects[b] = adds;
-            next.definitions[cell(b, a)] = adds;
-        }
-        9 | 10 => next.imports[cell(b, a)] = adds,
-        _ => next.exports[cell(b, a)] = adds,
-    }
-    next
 }
 
 /// The state after the instruction, or the number of its refusal.
@@ -203,18 +93,24 @@ pub fn step(s: &Record, bytes: Bytes) -> Result<Record, u8> {
     if !is_sound(s) {
         return Err(12);
     }
-    if let Some(refusal) = misfit(bytes) {
-        return Err(refusal);
-    }
-    let [code, activator, a, b] = bytes;
-    let (u, a, b) = (usize::from(activator), usize::from(a), usize::from(b));
-    if let Some(refusal) = barred(s, code, u, a, b) {
-        return Err(refusal);
-    }
-    let next = successor(s, code, u, a, b);
-    match code {
-        9 | 11 if counts(&next, b)[a] == NO_ACCESS => Err(10),
+    let x = Instruction::of(bytes)?;
+    rules::permit(s, x)?;
+    let mut next = s.clone();
+    rules::obey(&mut next, x);
+    match x.code {
+        9 | 11 if counts(&next, x.b)[x.a] == NO_ACCESS => Err(10),
         6 | 8 | 10 | 12 if !is_valid(&next) => Err(11),
         _ => Ok(next),
+    }
+}
+
+/// The number of steps, 255 for no access, or 256 and the refusal.
+pub fn access(s: &Record, area: u8, object: u8) -> u16 {
+    if !is_sound(s) {
+        return REFUSED + 12;
+    }
+    match rules::question(s, area, object) {
+        Ok((area, object)) => u16::from(counts(s, object)[area]),
+        Err(refusal) => REFUSED + u16::from(refusal),
     }
 }

@@ -1,8 +1,7 @@
-//! The record of a site as the library has it: one cell for each number, and one for each pair, the cell of (i, j) at i * 32 + j.
+//! A state as bools, one a place, the place of the pair (i, j) at i * 32 + j: what the plain baseline works on, and
+//! what the states of the benchmark are written in.
 
-pub const USERS: usize = 32;
-pub const AREAS: usize = 32;
-pub const OBJECTS: usize = 64;
+use crate::rules::{Place, Site, AREAS};
 
 #[derive(Clone, PartialEq)]
 pub struct Record {
@@ -16,10 +15,11 @@ pub struct Record {
     pub exports: [bool; 2048],
 }
 
-/// Four bytes: code, activator, a, b.
-pub type Bytes = [u8; 4];
+/// A record as the C interface has it.
+pub type RecordBytes = [u8; RECORD_BYTES];
+pub const RECORD_BYTES: usize = 8320;
 
-/// The cell of a pair.
+/// The place of a pair in its relation.
 pub fn cell(first: usize, area: usize) -> usize {
     first * AREAS + area
 }
@@ -45,5 +45,57 @@ impl Record {
         s.areas[0] = true;
         s.owners[0] = true;
         s
+    }
+
+    /// The lists and relations, in the order of the C interface.
+    pub fn parts(&self) -> [&[bool]; 8] {
+        [
+            &self.users,
+            &self.areas,
+            &self.objects,
+            &self.owners,
+            &self.definitions,
+            &self.structure,
+            &self.imports,
+            &self.exports,
+        ]
+    }
+
+    pub fn bytes(&self) -> RecordBytes {
+        let mut bytes = [0; RECORD_BYTES];
+        for (byte, &there) in bytes.iter_mut().zip(self.parts().into_iter().flatten()) {
+            *byte = u8::from(there);
+        }
+        bytes
+    }
+}
+
+impl Site for Record {
+    #[inline(always)]
+    fn has(&self, place: Place) -> bool {
+        match place {
+            Place::User(user) => self.users[user],
+            Place::Area(area) => self.areas[area],
+            Place::Object(object) => self.objects[object],
+            Place::Owner(user, area) => self.owners[cell(user, area)],
+            Place::Definition(object, area) => self.definitions[cell(object, area)],
+            Place::Structure(inner, outer) => self.structure[cell(inner, outer)],
+            Place::Import(object, area) => self.imports[cell(object, area)],
+            Place::Export(object, area) => self.exports[cell(object, area)],
+        }
+    }
+
+    #[inline(always)]
+    fn put(&mut self, place: Place, there: bool) {
+        match place {
+            Place::User(user) => self.users[user] = there,
+            Place::Area(area) => self.areas[area] = there,
+            Place::Object(object) => self.objects[object] = there,
+            Place::Owner(user, area) => self.owners[cell(user, area)] = there,
+            Place::Definition(object, area) => self.definitions[cell(object, area)] = there,
+            Place::Structure(inner, outer) => self.structure[cell(inner, outer)] = there,
+            Place::Import(object, area) => self.imports[cell(object, area)] = there,
+            Place::Export(object, area) => self.exports[cell(object, area)] = there,
+        }
     }
 }

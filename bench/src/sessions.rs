@@ -1,7 +1,9 @@
-//! Sessions for the program, as large as it takes, and what it should print for them: a transcript in plain Rust over the plain step.
+//! Sessions for the program, as large as it takes, and what it should print for them: a transcript in plain Rust over
+//! the plain step.
 
 use crate::plain;
-use crate::record::{Bytes, Record};
+use crate::record::Record;
+use crate::rules::Bytes;
 use std::fmt::Write;
 
 /// The most bytes of an input.
@@ -22,7 +24,8 @@ pub fn accepted() -> String {
     filled(String::new(), ["5 0 0 0\n", "6 0 0 0\n"])
 }
 
-/// A site is built up with every structure pair, and ten areas that export and import every object; then a structure pair comes and goes. All is accepted.
+/// A site is built up with every structure pair, and ten areas that export and import every object; then a structure
+/// pair comes and goes. All is accepted.
 pub fn dense() -> String {
     let mut lines = String::new();
     for area in 1..32 {
@@ -75,7 +78,15 @@ pub fn transcript(input: &str) -> String {
         };
         writeln!(text, "{} {result}", i + 1).unwrap();
     }
-    let sets: [&[bool]; 7] = [&s.users, &s.areas, &s.objects, &s.owners, &s.structure, &s.imports, &s.exports];
+    let sets: [&[bool]; 7] = [
+        &s.users,
+        &s.areas,
+        &s.objects,
+        &s.owners,
+        &s.structure,
+        &s.imports,
+        &s.exports,
+    ];
     text += "state";
     for set in sets {
         write!(text, " {}", set.iter().filter(|&&there| there).count()).unwrap();

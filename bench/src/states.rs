@@ -1,37 +1,29 @@
-//! The states that are timed: for the access question its four relations alone, for the step and the reader sound states.
+//! The states that are timed. All are sound.
 
-use crate::chance::Chance;
-use crate::library;
-use crate::record::{cell, Bytes, Record, AREAS, OBJECTS};
+use crate::plain;
+use crate::random;
+use crate::record::{cell, Record};
+use crate::rules::{Bytes, AREAS, OBJECTS};
+use chance::Chance;
 
-/// Every area lies in every area, and each imports and exports object 9, which area 0 defines.
-pub fn dense_access() -> Record {
-    let mut s = Record::empty();
-    s.structure.fill(true);
-    s.definitions[cell(9, 0)] = true;
-    s.imports[cell(9, 0)..cell(10, 0)].fill(true);
-    s.exports[cell(9, 0)..cell(10, 0)].fill(true);
-    s
+pub struct States {
+    pub largest: Record,
+    pub dense: Record,
+    pub chain: Record,
+    pub random: Record,
+    pub small: Record,
 }
 
-/// Area a lies in area a + 1; object 9 goes outward from area 0, object 10 inward from area 31.
-pub fn chain_access() -> Record {
-    let mut s = Record::empty();
-    s.definitions[cell(9, 0)] = true;
-    s.definitions[cell(10, 31)] = true;
-    for a in 0..31 {
-        s.structure[cell(a, a + 1)] = true;
-        s.exports[cell(9, a)] = true;
-        s.imports[cell(10, a)] = true;
+impl States {
+    pub fn new() -> States {
+        States {
+            largest: largest(),
+            dense: dense(),
+            chain: chain(),
+            random: random(6_000),
+            small: small(),
+        }
     }
-    s
-}
-
-/// Object 9 is defined in area 0, and no area lies in another.
-pub fn flat_access() -> Record {
-    let mut s = Record::empty();
-    s.definitions[cell(9, 0)] = true;
-    s
 }
 
 /// All users, areas and objects, each user an owner of each area, and the objects defined by turns in areas 0 to 31.
@@ -48,7 +40,7 @@ fn full() -> Record {
 }
 
 /// Every structure, import and export pair: no state has a longer file.
-pub fn largest() -> Record {
+fn largest() -> Record {
     let mut s = full();
     s.structure.fill(true);
     s.imports.fill(true);
@@ -57,14 +49,14 @@ pub fn largest() -> Record {
 }
 
 /// The largest but for one import.
-pub fn dense() -> Record {
+fn dense() -> Record {
     let mut s = largest();
     s.imports[cell(63, 31)] = false;
     s
 }
 
-/// Area a lies in area a + 1. Even objects go outward from area 0 by exports, odd objects inward from area 31 by imports.
-pub fn chain() -> Record {
+/// Area a lies in area a + 1. Even objects go outward from area 0 by exports, odd ones inward from area 31 by imports.
+fn chain() -> Record {
     let mut s = full();
     s.definitions.fill(false);
     for o in 0..OBJECTS {
@@ -80,19 +72,20 @@ pub fn chain() -> Record {
     s
 }
 
-/// What some random instructions lead to from the founding state, with so many of them accepted.
-pub fn random(accepted: u32) -> Record {
+/// What random instructions lead to from the founding state, with so many of them accepted.
+fn random(accepted: u32) -> Record {
     let mut chance = Chance::new(1);
     let mut s = Record::founding();
     let mut done = 0;
     while done < accepted {
-        let bytes = chance.instruction(&s, [32, 32, 64]);
+        let bytes = random::instruction(&mut chance, &s, random::WHOLE);
         // Fewer removes than adds, so that the state grows.
         let adds = bytes[0] % 2 == 1;
         if !adds && chance.once_in(3) {
             continue;
         }
-        if library::step(&mut s, bytes, 1) == 0 {
+        if let Ok(next) = plain::step(&s, bytes) {
+            s = next;
             done += 1;
         }
     }
@@ -100,7 +93,7 @@ pub fn random(accepted: u32) -> Record {
 }
 
 /// The session of document 01, up to line 8.
-pub fn small() -> Record {
+fn small() -> Record {
     let session: [Bytes; 8] = [
         [1, 0, 1, 0],
         [1, 0, 2, 0],
@@ -113,7 +106,8 @@ pub fn small() -> Record {
     ];
     let mut s = Record::founding();
     for bytes in session {
-        library::step(&mut s, bytes, 1);
+        // Line 6 is refused.
+        s = plain::step(&s, bytes).unwrap_or(s);
     }
     s
 }

@@ -1,0 +1,109 @@
+//! What is timed: the step, the access question and the reader, over the C interface and beside the two baselines.
+//!
+//! In the time is what a caller pays. The library gets the bytes of a record by pointer and length, and tests them; the
+//! baselines get a state of their own, which can't be anything else. Nobody keeps anything between calls.
+
+use crate::record::{Record, RECORD_BYTES};
+use crate::report::{LIMIT, SMALL_LIMIT};
+use crate::rows::Rows;
+use crate::rules::{Bytes, NO_ACCESS};
+use crate::states::States;
+use crate::timing::Race;
+use crate::{agree, files, ideal, ideal_reader, library, plain, plain_reader, random};
+use chance::Chance;
+use std::hint::black_box;
+use std::rc::Rc;
+
+pub fn all(s: &States) -> Vec<Race<'_>> {
+    let races = steps(s).into_iter().chain(questions(s)).chain(readings(s));
+    races.collect()
+}
+
+/// An instruction with this code that the state accepts.
+fn acceptable(s: &Record, code: u8) -> Bytes {
+    let mut chance = Chance::new(3);
+    loop {
+        let bytes = random::instruction(&mut chance, s, random::WHOLE);
+        if bytes[0] == code && plain::step(s, bytes).is_ok() {
+            return bytes;
+        }
+    }
+}
+
+/// The area and object with the most steps between the area and the one that defines the object.
+fn farthest(s: &Record) -> (u8, u8, u16) {
+    let rows = Rows::of(s);
+    let all = (0..32).flat_map(|area| (0..64).map(move |object| (area, object)));
+    let answers = all.map(|(area, object)| (area, object, ideal::access(&rows, area, object)));
+    answers
+        .filter(|answer| answer.2 < u16::from(NO_ACCESS))
+        .max_by_key(|answer| answer.2)
+        .expect("an object is listed")
+}
+
+/// A turn makes the next state of one that stays as it was. Library and ideal write in place, so they get a copy of the
+/// state for each call, 8,320 and 1,040 bytes, and its time counts; plain makes its copy itself.
+fn steps(s: &States) -> [Race<'_>; 8] {
+    let cases: [(&str, &Record, Bytes, f64); 8] = [
+        ("dense, remove", &s.dense, [12, 0, 31, 63], LIMIT),
+        ("dense, add", &s.dense, [9, 0, 31, 63], LIMIT),
+        ("chain, remove", &s.chain, [12, 0, 30, 62], LIMIT),
+        ("chain, add", &s.chain, [11, 0, 31, 62], LIMIT),
+        ("random, remove", &s.random, acceptable(&s.random, 12), LIMIT),
+        ("random, add", &s.random, acceptable(&s.random, 9), LIMIT),
+        ("small, remove", &s.small, [10, 0, 0, 9], SMALL_LIMIT),
+        ("small, add", &s.small, [11, 0, 2, 9], SMALL_LIMIT),
+    ];
+    cases.map(|(name, s, bytes, limit)| {
+        assert_eq!(agree::step(s, bytes).0, 0, "{name}: the step is refused");
+        let (record, rows) = (s.bytes(), Rows::of(s));
+        let mut state = record;
+        let by_library = move || {
+            state.copy_from_slice(black_box(&record));
+            library::step(&mut state, black_box(bytes))
+        };
+        let by_plain = move || plain::step(black_box(s), black_box(bytes));
+        let by_ideal = move || {
+            let mut state = *black_box(&rows);
+            let refusal = ideal::step(&mut state, black_box(bytes));
+            black_box(&state);
+            refusal
+        };
+        Race::new(format!("step {name}"), Some(limit), by_library, by_plain, by_ideal)
+    })
+}
+
+/// The access question asks first whether the state is sound, as document 01 has it: that is in the time, of all three.
+fn questions(s: &States) -> [Race<'_>; 5] {
+    let cases = [
+        ("chain outward", &s.chain, (31, 10, 31)),
+        ("chain inward", &s.chain, (0, 9, 31)),
+        ("dense", &s.dense, (31, 9, 1)),
+        ("random", &s.random, farthest(&s.random)),
+        ("small", &s.small, (0, 9, 2)),
+    ];
+    cases.map(|(name, s, (area, object, expected))| {
+        assert_eq!(agree::access(s, area, object), expected, "{name}: another answer");
+        let (record, rows) = (s.bytes(), Rows::of(s));
+        let by_library = move || library::access(black_box(&record), black_box(area), black_box(object));
+        let by_plain = move || plain::access(black_box(s), black_box(area), black_box(object));
+        let by_ideal = move || ideal::access(black_box(&rows), black_box(area), black_box(object));
+        Race::new(format!("access {name}"), None, by_library, by_plain, by_ideal)
+    })
+}
+
+/// From the bytes of a file to a state. The library writes into one buffer, which is not cleared between calls.
+fn readings(s: &States) -> [Race<'_>; 3] {
+    let cases = [("largest", &s.largest), ("chain", &s.chain), ("small", &s.small)];
+    cases.map(|(name, s)| {
+        let file: Rc<[u8]> = files::file(s).into();
+        assert_eq!(agree::read(&file), 0, "{name}: the file is refused");
+        let name = format!("read {name} ({} bytes)", file.len());
+        let mut state = [0; RECORD_BYTES];
+        let (for_plain, for_ideal) = (file.clone(), file.clone());
+        let by_library = move || library::read(black_box(&file), &mut state);
+        let by_plain = move || plain_reader::read(black_box(&for_plain));
+        let by_ideal = move || ideal_reader::read(black_box(&for_ideal));
+        Race::new(name, None, by_library, by_plain, by_ideal)
+    })
+}

@@ -1,0 +1,61 @@
+//! Who may see, lend, change and cut what on a site of fire panels: the proved library behind `include/panelrights.h`, called
+//! safely.
+//!
+//! A site has users, areas (a panel, a loop, a building) and objects (tables that are stored on panels). A [`State`] says who owns
+//! which area, which object is defined where, which area lies in which, and which areas import or export an object. It changes by
+//! twelve [kinds](Kind) of instruction, each obeyed or refused with a [`Refusal`]; [`State::access`] says over how many
+//! steps an object reaches an area. You check nothing beforehand: any bytes and any numbers have an answer, and none makes these
+//! functions panic.
+//!
+//! ```
+//! use panelrights::{Kind, Refusal, State};
+//!
+//! # fn main() -> Result<(), Refusal> {
+//! let mut site = State::founding();
+//! for area in [1, 2] {
+//!     site.step(Kind::ListArea { area }.by(0))?;
+//! }
+//! // Panels 0 and 1 stand in building 2. Panel 1 lends table 9 to the building, and panel 0 borrows it from there.
+//! site.step(Kind::AddStructure { inner: 0, outer: 2 }.by(0))?;
+//! site.step(Kind::AddStructure { inner: 1, outer: 2 }.by(0))?;
+//! site.step(Kind::Define { area: 1, object: 9 }.by(0))?;
+//! site.step(Kind::AddExport { area: 1, object: 9 }.by(0))?;
+//! site.step(Kind::AddImport { area: 0, object: 9 }.by(0))?;
+//! assert_eq!(site.access(0, 9)?, Some(2));
+//!
+//! // As long as panel 0 borrows the table, the loan can't be taken back.
+//! let refusal = site.step(Kind::RemoveExport { area: 1, object: 9 }.by(0)).unwrap_err();
+//! assert_eq!(refusal, Refusal::AccessLost);
+//! println!("{refusal}");
+//! # Ok(())
+//! # }
+//! ```
+//!
+//! `make lib` in the repository builds the static library. The environment variable `PANELRIGHTS_LIB_DIR` names another folder to
+//! link it from. A call takes less than 64 KiB of stack.
+
+#![warn(missing_docs)]
+
+pub mod sys;
+
+mod file;
+mod instruction;
+mod refusal;
+mod state;
+
+pub use file::{label, read_file};
+pub use instruction::{Instruction, Kind};
+pub use refusal::{NoRefusal, Refusal};
+pub use state::{State, AREAS, OBJECTS, USERS};
+
+/// Of eight marks in a byte, the lowest number in the lowest bit: the place (0 to 7) of the lowest mark set, if any.
+///
+/// ```
+/// assert_eq!(panelrights::lowest_mark(0b0110_1000), Some(3));
+/// assert_eq!(panelrights::lowest_mark(0), None);
+/// ```
+pub fn lowest_mark(marks: u8) -> Option<u8> {
+    // SAFETY: nothing is asked of a caller.
+    let place = unsafe { sys::panelrights_lowest_mark(marks) };
+    (place < 8).then_some(place)
+}

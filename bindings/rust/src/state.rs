@@ -1,0 +1,217 @@
+//! The state of a site.
+
+use crate::instruction::Instruction;
+use crate::refusal::Refusal;
+use crate::sys;
+use std::fmt;
+
+/// How many users there can be: they are numbered from 0 on, and so are areas and objects.
+pub const USERS: u8 = 32;
+/// How many areas there can be.
+pub const AREAS: u8 = 32;
+/// How many objects there can be.
+pub const OBJECTS: u8 = 64;
+
+/// A part of the record: where it begins, and how many firsts and seconds its pairs can have. A list is a part with one second.
+struct Part {
+    start: usize,
+    firsts: u8,
+    seconds: u8,
+}
+
+impl Part {
+    const fn list(start: usize, numbers: u8) -> Part {
+        Part { start, firsts: numbers, seconds: 1 }
+    }
+
+    /// A relation, in which the second of a pair is an area.
+    const fn relation(start: usize, firsts: u8) -> Part {
+        Part { start, firsts, seconds: AREAS }
+    }
+}
+
+const USER_LIST: Part = Part::list(0, USERS);
+const AREA_LIST: Part = Part::list(32, AREAS);
+const OBJECT_LIST: Part = Part::list(64, OBJECTS);
+const OWNERS: Part = Part::relation(128, USERS);
+const DEFINITIONS: Part = Part::relation(1152, OBJECTS);
+const STRUCTURE: Part = Part::relation(3200, AREAS);
+const IMPORTS: Part = Part::relation(4224, OBJECTS);
+const EXPORTS: Part = Part::relation(6272, OBJECTS);
+
+/// A sound state of a site: the founding one, that of a site file, that of a stored record, or what steps made of one of
+/// these. A state that is not sound can't be had, so 12 never comes from [`step`](State::step) or [`access`](State::access).
+///
+/// It is 8,320 bytes on the heap; equal states have equal bytes.
+///
+/// ```
+/// use panelrights::{Kind, Refusal, State};
+///
+/// # fn main() -> Result<(), Refusal> {
+/// let mut site = State::founding();
+/// site.step(Kind::ListArea { area: 1 }.by(0))?;
+/// site.step(Kind::Define { area: 1, object: 9 }.by(0))?;
+/// assert_eq!(site.access(1, 9)?, Some(0));
+/// assert_eq!(site.access(0, 9)?, None);
+///
+/// // Area 0 can't borrow what does not reach it.
+/// assert_eq!(site.step(Kind::AddImport { area: 0, object: 9 }.by(0)), Err(Refusal::LacksAccess));
+///
+/// // It can once it lies in area 1.
+/// site.step(Kind::AddStructure { inner: 0, outer: 1 }.by(0))?;
+/// site.step(Kind::AddImport { area: 0, object: 9 }.by(0))?;
+/// assert_eq!(site.access(0, 9)?, Some(1));
+/// # Ok(())
+/// # }
+/// ```
+#[derive(Clone, PartialEq, Eq)]
+pub struct State {
+    pub(crate) record: Box<[u8; sys::STATE_BYTES]>,
+}
+
+impl State {
+    /// The founding state: user 0 owns area 0, and there is nothing else.
+    pub fn founding() -> State {
+        let mut record = Box::new([0; sys::STATE_BYTES]);
+        // SAFETY: the pointer is that of a live array, handed over with its length.
+        let refusal = unsafe { sys::panelrights_founding(record.as_mut_ptr(), record.len()) };
+        // A library whose records have another length writes nothing, and answers 12 to whatever follows.
+        debug_assert_eq!(refusal, 0, "the library has records of another length than this package");
+        State { record }
+    }
+
+    /// The state of a record that was kept, for instance on a disk. Any bytes may be given: [`Refusal::StateLength`] for another
+    /// length than 8,320, [`Refusal::UnsoundState`] for bytes that are no record or whose state is not sound.
+    pub fn from_record(bytes: &[u8]) -> Result<State, Refusal> {
+        let record: &[u8; sys::STATE_BYTES] = bytes.try_into().map_err(|_| Refusal::StateLength)?;
+        let state = State { record: Box::new(*record) };
+        // The access question is refused as 12 before its numbers are looked at, which here are out of range.
+        match state.access(AREAS, OBJECTS) {
+            Err(Refusal::OutOfRange) => Ok(state),
+            _ => Err(Refusal::UnsoundState),
+        }
+    }
+
+    /// The record, to be kept as it is; [`State::from_record`] takes it back.
+    pub fn as_record(&self) -> &[u8] {
+        self.record.as_slice()
+    }
+
+    /// Obeys one instruction, given by name or as four bytes. After a refusal, 1 to 11, the state is the one before.
+    ///
+    /// ```
+    /// use panelrights::{Kind, Refusal, State};
+    ///
+    /// let mut site = State::founding();
+    /// assert_eq!(site.step(Kind::AddOwner { area: 0, user: 4 }.by(0)), Ok(()));
+    /// assert_eq!(site.step([3, 0, 0, 4]), Err(Refusal::AlreadyThere));
+    /// ```
+    pub fn step(&mut self, instruction: impl Into<Instruction>) -> Result<(), Refusal> {
+        let Instruction { code, activator, a, b } = instruction.into();
+        let record = self.record.as_mut_slice();
+        // SAFETY: the pointer is that of a live slice, handed over with its length.
+        match unsafe { sys::panelrights_step(record.as_mut_ptr(), record.len(), code, activator, a, b) } {
+            0 => Ok(()),
+            refusal => Err(Refusal::of(refusal)),
+        }
+    }
+
+    /// In how many steps does the object reach the area? The number of steps in a shortest chain, 0 for the area that defines it
+    /// and never above 31; `None` for no access. Refused are numbers out of range ([`Refusal::OutOfRange`]) and what is not
+    /// listed ([`Refusal::NotListed`]).
+    pub fn access(&self, area: u8, object: u8) -> Result<Option<u8>, Refusal> {
+        // SAFETY: the pointer is that of a live array, handed over with its length.
+        let answer = unsafe { sys::panelrights_access(self.record.as_ptr(), self.record.len(), area, object) };
+        let [low, _] = answer.to_le_bytes();
+        match answer {
+            sys::NO_ACCESS => Ok(None),
+            sys::ACCESS_REFUSED.. => Err(Refusal::of(low)),
+            _ => Ok(Some(low)),
+        }
+    }
+
+    /// Is the user listed? Of a number out of range nothing is true, here and below.
+    pub fn is_listed_user(&self, user: u8) -> bool {
+        self.holds(&USER_LIST, user, 0)
+    }
+
+    /// Is the area listed?
+    pub fn is_listed_area(&self, area: u8) -> bool {
+        self.holds(&AREA_LIST, area, 0)
+    }
+
+    /// Is the object listed?
+    pub fn is_listed_object(&self, object: u8) -> bool {
+        self.holds(&OBJECT_LIST, object, 0)
+    }
+
+    /// Does the user own the area, so that he may change it?
+    pub fn owns(&self, user: u8, area: u8) -> bool {
+        self.holds(&OWNERS, user, area)
+    }
+
+    /// Is the object defined in the area?
+    pub fn defines(&self, object: u8, area: u8) -> bool {
+        self.holds(&DEFINITIONS, object, area)
+    }
+
+    /// Does the inner area lie in the outer one, by a pair of their own?
+    pub fn lies_in(&self, inner: u8, outer: u8) -> bool {
+        self.holds(&STRUCTURE, inner, outer)
+    }
+
+    /// Is the object imported by the area?
+    pub fn imports(&self, object: u8, area: u8) -> bool {
+        self.holds(&IMPORTS, object, area)
+    }
+
+    /// Is the object exported by the area?
+    pub fn exports(&self, object: u8, area: u8) -> bool {
+        self.holds(&EXPORTS, object, area)
+    }
+
+    /// The listed users, upwards.
+    pub fn users(&self) -> impl Iterator<Item = u8> + '_ {
+        self.listed(&USER_LIST)
+    }
+
+    /// The listed areas, upwards.
+    pub fn areas(&self) -> impl Iterator<Item = u8> + '_ {
+        self.listed(&AREA_LIST)
+    }
+
+    /// The listed objects, upwards.
+    pub fn objects(&self) -> impl Iterator<Item = u8> + '_ {
+        self.listed(&OBJECT_LIST)
+    }
+
+    fn holds(&self, part: &Part, first: u8, second: u8) -> bool {
+        let at = part.start + usize::from(first) * usize::from(part.seconds) + usize::from(second);
+        first < part.firsts && second < part.seconds && self.record[at] == 1
+    }
+
+    fn listed<'a>(&'a self, list: &'a Part) -> impl Iterator<Item = u8> + 'a {
+        (0..list.firsts).filter(|&number| self.holds(list, number, 0))
+    }
+
+    fn pairs(&self, relation: &Part) -> Vec<(u8, u8)> {
+        let all = (0..relation.firsts).flat_map(|first| (0..AREAS).map(move |area| (first, area)));
+        all.filter(|&(first, area)| self.holds(relation, first, area)).collect()
+    }
+}
+
+/// The lists and the pairs, and not 8,320 numbers.
+impl fmt::Debug for State {
+    fn fmt(&self, out: &mut fmt::Formatter) -> fmt::Result {
+        out.debug_struct("State")
+            .field("users", &self.users().collect::<Vec<_>>())
+            .field("areas", &self.areas().collect::<Vec<_>>())
+            .field("objects", &self.objects().collect::<Vec<_>>())
+            .field("owners", &self.pairs(&OWNERS))
+            .field("definitions", &self.pairs(&DEFINITIONS))
+            .field("structure", &self.pairs(&STRUCTURE))
+            .field("imports", &self.pairs(&IMPORTS))
+            .field("exports", &self.pairs(&EXPORTS))
+            .finish()
+    }
+}

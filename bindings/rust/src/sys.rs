@@ -1,0 +1,58 @@
+//! The C interface as `include/panelrights.h` has it. All of it is unsafe to call: the compiler can't see that a pointer and
+//! its length belong together. The rest of this package calls it for you.
+//!
+//! For every function: at `x` there are `x_len` bytes that may be read, and written where the pointer is `*mut`; with the
+//! length 0 the pointer may be null; the buffers of one call do not overlap. Nothing else is asked of a caller: any bytes,
+//! any numbers and any length have an answer.
+
+/// How many bytes the record of a state has: what [`panelrights_state_bytes`] answers.
+pub const STATE_BYTES: usize = 8320;
+/// What [`panelrights_access`] answers for 'no access'.
+pub const NO_ACCESS: u16 = 255;
+/// What [`panelrights_access`] adds to a refusal.
+pub const ACCESS_REFUSED: u16 = 256;
+
+extern "C" {
+    /// How many bytes the record of a state has.
+    ///
+    /// # Safety
+    /// Nothing is asked.
+    pub fn panelrights_state_bytes() -> usize;
+
+    /// Writes the record of the founding state. 0; or 31 and no byte written, if the length is another.
+    ///
+    /// # Safety
+    /// `state_len` bytes may be read and written at `state`.
+    pub fn panelrights_founding(state: *mut u8, state_len: usize) -> u8;
+
+    /// Obeys one instruction. 0, and the record is that of the state after it; or the refusal, and no byte is changed.
+    ///
+    /// # Safety
+    /// `state_len` bytes may be read and written at `state`.
+    pub fn panelrights_step(state: *mut u8, state_len: usize, code: u8, activator: u8, a: u8, b: u8) -> u8;
+
+    /// The number of steps in a shortest chain to the area, [`NO_ACCESS`], or [`ACCESS_REFUSED`] and the refusal.
+    ///
+    /// # Safety
+    /// `state_len` bytes may be read at `state`.
+    pub fn panelrights_access(state: *const u8, state_len: usize, area: u8, object: u8) -> u16;
+
+    /// Reads a site file. 0, and the record is that of its state; or 21 to 29, and it is that of the founding state; or 31,
+    /// and no byte is written.
+    ///
+    /// # Safety
+    /// `file_len` bytes may be read at `file`, `state_len` bytes read and written at `state`, and the two do not overlap.
+    pub fn panelrights_read_file(file: *const u8, file_len: usize, state: *mut u8, state_len: usize) -> u8;
+
+    /// Where the label's text stands in the file: offset * 65536 + length, or 0 for none.
+    ///
+    /// # Safety
+    /// `file_len` bytes may be read at `file`.
+    pub fn panelrights_label(file: *const u8, file_len: usize, area: u8) -> u32;
+
+    /// The place (0 to 7) of the lowest mark set in a byte, 8 if none.
+    ///
+    /// # Safety
+    /// Nothing is asked.
+    pub fn panelrights_lowest_mark(marks: u8) -> u8;
+}

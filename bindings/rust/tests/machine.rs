@@ -1,0 +1,148 @@
+//! The session of document 01, and its examples of refused instructions.
+
+use panelrights::{Instruction, Kind, Refusal, State};
+
+/// The founding state after the instructions, all of which must be accepted.
+fn after(instructions: &[[u8; 4]]) -> State {
+    let mut state = State::founding();
+    for &instruction in instructions {
+        assert_eq!(state.step(instruction), Ok(()), "{instruction:?}");
+    }
+    state
+}
+
+/// What is set at last must be refused with the number, and leave the state as it was.
+fn refused(before: &[[u8; 4]], last: [u8; 4], number: u8) {
+    let mut state = after(before);
+    let given = state.clone();
+    let refusal = state.step(last).expect_err("it is accepted");
+    assert_eq!(refusal.number(), number, "{last:?}: {refusal}");
+    assert_eq!(state, given, "{last:?}");
+}
+
+const SESSION: [([u8; 4], u8); 12] = [
+    ([1, 0, 1, 0], 0),
+    ([1, 0, 2, 0], 0),
+    ([5, 0, 1, 2], 0),
+    ([5, 0, 0, 2], 0),
+    ([7, 0, 1, 9], 0),
+    ([9, 0, 0, 9], 10),
+    ([11, 0, 1, 9], 0),
+    ([9, 0, 0, 9], 0),
+    ([12, 0, 1, 9], 11),
+    ([3, 0, 0, 4], 0),
+    ([10, 4, 0, 9], 0),
+    ([6, 4, 0, 2], 0),
+];
+
+#[test]
+fn session() {
+    let mut state = State::founding();
+    for (line, (instruction, number)) in SESSION.into_iter().enumerate() {
+        let answer = state.step(instruction).map_or_else(Refusal::number, |()| 0);
+        assert_eq!(answer, number, "line {}", line + 1);
+        if line + 1 == 8 {
+            assert_eq!(state.access(0, 9), Ok(Some(2)));
+            assert_eq!(state.access(2, 9), Ok(Some(1)), "the building has access with no entry of its own");
+        }
+    }
+    assert_eq!(
+        format!("{state:?}"),
+        "State { users: [0, 4], areas: [0, 1, 2], objects: [9], owners: [(0, 0), (0, 1), (0, 2), (4, 0)], \
+         definitions: [(9, 1)], structure: [(1, 2)], imports: [], exports: [(9, 1)] }"
+    );
+}
+
+#[test]
+fn session_by_name() {
+    let named = [
+        Kind::ListArea { area: 1 }.by(0),
+        Kind::ListArea { area: 2 }.by(0),
+        Kind::AddStructure { inner: 1, outer: 2 }.by(0),
+        Kind::AddStructure { inner: 0, outer: 2 }.by(0),
+        Kind::Define { area: 1, object: 9 }.by(0),
+        Kind::AddImport { area: 0, object: 9 }.by(0),
+        Kind::AddExport { area: 1, object: 9 }.by(0),
+        Kind::AddImport { area: 0, object: 9 }.by(0),
+        Kind::RemoveExport { area: 1, object: 9 }.by(0),
+        Kind::AddOwner { area: 0, user: 4 }.by(0),
+        Kind::RemoveImport { area: 0, object: 9 }.by(4),
+        Kind::RemoveStructure { inner: 0, outer: 2 }.by(4),
+    ];
+    assert_eq!(named, SESSION.map(|(instruction, _)| Instruction::from(instruction)));
+    assert_eq!(Kind::UnlistArea { area: 7 }.by(3), [2, 3, 7, 0].into());
+    assert_eq!(Kind::RemoveOwner { area: 7, user: 5 }.by(3), [4, 3, 7, 5].into());
+    assert_eq!(Kind::RemoveDefinition { area: 7, object: 63 }.by(3), [8, 3, 7, 63].into());
+}
+
+#[test]
+fn refusals_of_an_instruction() {
+    refused(&[], [13, 0, 0, 0], 1);
+    refused(&[], [7, 0, 0, 64], 2);
+    refused(&[], [1, 5, 1, 0], 3);
+    refused(&[], [7, 0, 6, 0], 4);
+    refused(&[[1, 0, 1, 0], [3, 0, 0, 4]], [7, 4, 1, 9], 5);
+    refused(&[], [1, 0, 0, 0], 6);
+    refused(&[[7, 0, 0, 9]], [10, 0, 0, 9], 7);
+    refused(&[], [4, 0, 0, 0], 8);
+    refused(&[[1, 0, 1, 0], [7, 0, 1, 9]], [2, 0, 1, 0], 9);
+    refused(&[[1, 0, 1, 0], [7, 0, 0, 9]], [9, 0, 1, 9], 10);
+    let lent = SESSION[..8].iter().filter(|(_, number)| *number == 0).map(|(instruction, _)| *instruction);
+    refused(&lent.collect::<Vec<_>>(), [12, 0, 1, 9], 11);
+}
+
+#[test]
+fn the_first_refusal_in_order() {
+    refused(&[], [0, 255, 255, 255], 1);
+    refused(&[], [1, 32, 1, 0], 2);
+    refused(&[], [2, 5, 0, 1], 2);
+    refused(&[], [4, 5, 0, 0], 3);
+}
+
+/// Places where a reader of document 01 could go wrong.
+#[test]
+fn traps() {
+    // User 0 loses an area that is not his last, and stays listed.
+    refused(&[[1, 0, 1, 0], [2, 0, 1, 0]], [1, 0, 0, 0], 6);
+    // Areas 1 and 2 lie in each other, and no chain leads to either.
+    refused(&[[1, 0, 1, 0], [1, 0, 2, 0], [7, 0, 0, 9], [5, 0, 1, 2], [5, 0, 2, 1]], [9, 0, 1, 9], 10);
+}
+
+#[test]
+fn refusals_of_the_access_question() {
+    let state = after(&[[7, 0, 0, 9]]);
+    assert_eq!(state.access(0, 9), Ok(Some(0)));
+    assert_eq!(state.access(32, 9), Err(Refusal::OutOfRange));
+    assert_eq!(state.access(0, 64), Err(Refusal::OutOfRange));
+    assert_eq!(state.access(255, 255), Err(Refusal::OutOfRange));
+    assert_eq!(state.access(1, 9), Err(Refusal::NotListed));
+    assert_eq!(state.access(0, 8), Err(Refusal::NotListed));
+    assert_eq!(after(&[[7, 0, 0, 9], [1, 0, 1, 0]]).access(1, 9), Ok(None));
+}
+
+/// Areas in a row, each in the next: the last is 31 steps from the definer.
+#[test]
+fn the_longest_chain() {
+    let mut state = after(&[[7, 0, 0, 63]]);
+    for area in 0..31 {
+        for kind in [
+            Kind::ListArea { area: area + 1 },
+            Kind::AddStructure { inner: area, outer: area + 1 },
+            Kind::AddExport { area, object: 63 },
+        ] {
+            assert_eq!(state.step(kind.by(0)), Ok(()));
+        }
+    }
+    for area in 0..32 {
+        assert_eq!(state.access(area, 63), Ok(Some(area)));
+    }
+    assert_eq!(state.step([12, 0, 0, 63]), Err(Refusal::AccessLost), "the lost pairs are up to 30 steps off");
+}
+
+#[test]
+fn lowest_marks() {
+    for marks in 0..=255u8 {
+        let lowest = (0..8).find(|place| marks >> place & 1 == 1);
+        assert_eq!(panelrights::lowest_mark(marks), lowest, "{marks}");
+    }
+}

@@ -1,0 +1,28 @@
+//! The site access state machine of document 01, written a second time: sets of pairs instead of arrays of cells.
+//!
+//! Each module follows one section of document 01, and each function quotes the sentence that it stands for.
+//! "READINGS" is the page that says how open places of the papers are read; only its base part is built here.
+
+#![forbid(unsafe_code)]
+#![warn(missing_docs)]
+
+mod access;
+mod instructions;
+mod lending;
+mod program;
+mod question;
+mod record;
+mod refusals;
+mod site_file;
+mod small;
+mod soundness;
+mod state;
+
+pub use instructions::{run, step, step_record};
+pub use lending::lending_guarantee;
+pub use program::transcript;
+pub use question::{access, lowest_mark};
+pub use record::{from_record, to_record, RECORD_BYTES};
+pub use site_file::{label, read_file, write_file, Labels};
+pub use small::small_states;
+pub use state::State;

@@ -1,0 +1,24 @@
+//! "The access question", and the marks of the area list.
+
+use crate::access::shortest_chain;
+use crate::state::State;
+
+/// "For area a and object b the answer is the number of steps in a shortest chain, 0 for the defining area and never above 31, or
+/// 'no access'. Refusals 12, 2, 4 apply in that order, with the same conditions for a and b."
+pub fn access(state: &State, area: u8, object: u8) -> Result<Option<u8>, u8> {
+    if !state.is_sound() {
+        return Err(12);
+    }
+    if area > 31 || object > 63 {
+        return Err(2);
+    }
+    if !state.areas.contains(&area) || !state.objects.contains(&object) {
+        return Err(4);
+    }
+    Ok(shortest_chain(state, area, object))
+}
+
+/// "eight marks in a byte (lowest number in the lowest bit) give the place (0 to 7) of the lowest mark set, 8 if none"
+pub fn lowest_mark(marks: u8) -> u8 {
+    (0..8).find(|place| marks & (1 << place) != 0).unwrap_or(8)
+}

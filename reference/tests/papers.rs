@@ -1,0 +1,1059 @@
+//! The examples of document 01 and the readings 1 to 11, by hand from the papers.
+
+use reference::*;
+use std::collections::{BTreeMap, BTreeSet};
+
+/// The state after the list from F; every instruction of it is to be accepted.
+fn from_f(list: &[[u8; 4]]) -> State {
+    let mut state = State::founding();
+    for &instruction in list {
+        state = step(&state, instruction).unwrap_or_else(|refusal| panic!("{instruction:?} is refused with {refusal}"));
+    }
+    state
+}
+
+/// Asserts the refusal after the accepted list, on the state and on its record.
+fn refused(list: &[[u8; 4]], instruction: [u8; 4], refusal: u8) {
+    let state = from_f(list);
+    assert_eq!(step(&state, instruction), Err(refusal), "{instruction:?} after {list:?}");
+    assert_eq!(step_record(&to_record(&state), instruction), Err(refusal));
+    assert_eq!(run(&state, &[instruction]), state);
+}
+
+/// Asserts that the instruction is accepted after the accepted list, and hands the next state back.
+fn accepted(list: &[[u8; 4]], instruction: [u8; 4]) -> State {
+    let state = from_f(list);
+    let next = step(&state, instruction).expect("accepted");
+    assert_eq!(step_record(&to_record(&state), instruction), Ok(to_record(&next)));
+    assert!(next.is_sound());
+    next
+}
+
+/// A site file with the tables as given, whatever they hold; counts, offsets and length fit.
+fn file(
+    owners: &[[u8; 2]],
+    definitions: &[[u8; 2]],
+    structure: &[[u8; 2]],
+    imports: &[[u8; 2]],
+    exports: &[[u8; 2]],
+    labels: &[[u8; 32]],
+) -> Vec<u8> {
+    let counts = [
+        owners.len(),
+        definitions.len(),
+        structure.len(),
+        imports.len(),
+        exports.len(),
+        labels.len(),
+    ];
+    let mut offsets = [28; 6];
+    for table in 1..6 {
+        offsets[table] = offsets[table - 1] + 2 * counts[table - 1];
+    }
+    let length = offsets[5] + 32 * counts[5];
+    let mut bytes = Vec::new();
+    for field in [1, length].into_iter().chain(counts).chain(offsets) {
+        bytes.extend((field as u16).to_le_bytes());
+    }
+    bytes.extend([owners, definitions, structure, imports, exports].concat().concat());
+    bytes.extend(labels.concat());
+    bytes
+}
+
+/// A label entry with any area, length and text, filled with zeros.
+fn entry(area: u8, length: u8, text: &[u8]) -> [u8; 32] {
+    let mut entry = [0; 32];
+    entry[0] = area;
+    entry[1] = length;
+    entry[2..2 + text.len()].copy_from_slice(text);
+    entry
+}
+
+const NO: &[[u8; 2]] = &[];
+const NO_LABELS: &[[u8; 32]] = &[];
+
+const SESSION: &[[u8; 4]] = &[
+    [1, 0, 1, 0],
+    [1, 0, 2, 0],
+    [5, 0, 1, 2],
+    [5, 0, 0, 2],
+    [7, 0, 1, 9],
+    [9, 0, 0, 9],
+    [11, 0, 1, 9],
+    [9, 0, 0, 9],
+    [12, 0, 1, 9],
+    [3, 0, 0, 4],
+    [10, 4, 0, 9],
+    [6, 4, 0, 2],
+];
+
+// The state and its record
+
+#[test]
+fn founding_state_is_sound_and_user_0_owns_area_0() {
+    let f = State::founding();
+    assert!(f.is_sound());
+    assert_eq!((f.users.len(), f.areas.len(), f.objects.len()), (1, 1, 0));
+    assert_eq!(f.owners, BTreeSet::from([(0, 0)]));
+    assert!(f.definitions.is_empty() && f.structure.is_empty() && f.imports.is_empty() && f.exports.is_empty());
+}
+
+#[test]
+fn founding_record_has_three_places_set() {
+    let mut record = vec![0; 8320];
+    record[0] = 1; // user 0
+    record[32] = 1; // area 0
+    record[32 + 32 + 64] = 1; // owner pair (0, 0)
+    assert_eq!(RECORD_BYTES, 8320);
+    assert_eq!(to_record(&State::founding()), record);
+    assert_eq!(from_record(&record), Some(State::founding()));
+}
+
+#[test]
+fn record_places_are_in_the_order_of_the_relations() {
+    let last = State {
+        users: BTreeSet::from([31]),
+        areas: BTreeSet::from([31]),
+        objects: BTreeSet::from([63]),
+        owners: BTreeSet::from([(31, 31)]),
+        definitions: BTreeSet::from([(63, 31)]),
+        structure: BTreeSet::from([(31, 31)]),
+        imports: BTreeSet::from([(63, 31)]),
+        exports: BTreeSet::from([(63, 31)]),
+    };
+    let mut record = vec![0; 8320];
+    for place in [31, 63, 127, 1151, 3199, 4223, 6271, 8319] {
+        record[place] = 1;
+    }
+    assert!(last.is_sound());
+    assert_eq!(to_record(&last), record);
+    assert_eq!(from_record(&record), Some(last));
+    let mut pair = vec![0; 8320];
+    pair[4224 + 9 * 32 + 2] = 1; // import of object 9 by area 2
+    pair[3200 + 3 * 32 + 4] = 1; // area 3 in area 4
+    let state = from_record(&pair).expect("a record of an unsound state");
+    assert_eq!(
+        (state.imports, state.structure),
+        (BTreeSet::from([(9, 2)]), BTreeSet::from([(3, 4)]))
+    );
+}
+
+#[test]
+fn malformed_record_is_12() {
+    let record = to_record(&State::founding());
+    for bad in [&record[..8319], &[record.clone(), vec![0]].concat(), &[]] {
+        assert_eq!(from_record(bad), None);
+        assert_eq!(step_record(bad, [1, 0, 1, 0]), Err(12));
+    }
+    let mut two = record;
+    two[5000] = 2;
+    assert_eq!(from_record(&two), None);
+    assert_eq!(step_record(&two, [0, 255, 255, 255]), Err(12));
+}
+
+#[test]
+fn each_part_of_soundness_by_itself() {
+    let f = State::founding();
+    let sound = from_f(&[[1, 0, 1, 0], [7, 0, 0, 9]]);
+    assert!(sound.is_sound());
+    let nothing = State {
+        users: BTreeSet::new(),
+        areas: BTreeSet::new(),
+        owners: BTreeSet::new(),
+        ..f.clone()
+    };
+    assert!(!nothing.is_sound(), "has at least one area");
+    let unsound: [(&str, State); 10] = [
+        (
+            "owner pair of an unlisted user",
+            State {
+                owners: BTreeSet::from([(0, 0), (4, 0)]),
+                ..f.clone()
+            },
+        ),
+        (
+            "owner pair of an unlisted area",
+            State {
+                owners: BTreeSet::from([(0, 0), (0, 4)]),
+                ..f.clone()
+            },
+        ),
+        (
+            "structure pair of an unlisted area",
+            State {
+                structure: BTreeSet::from([(0, 4)]),
+                ..f.clone()
+            },
+        ),
+        (
+            "definition of an unlisted object",
+            State {
+                definitions: BTreeSet::from([(9, 0)]),
+                ..f.clone()
+            },
+        ),
+        (
+            "a listed user owns nothing",
+            State {
+                users: BTreeSet::from([0, 4]),
+                ..f.clone()
+            },
+        ),
+        (
+            "a listed area has no owner",
+            State {
+                areas: BTreeSet::from([0, 3]),
+                ..f.clone()
+            },
+        ),
+        (
+            "a listed object is defined nowhere",
+            State {
+                objects: BTreeSet::from([9]),
+                ..f.clone()
+            },
+        ),
+        (
+            "an object is defined twice",
+            State {
+                definitions: BTreeSet::from([(9, 0), (9, 1)]),
+                ..sound.clone()
+            },
+        ),
+        (
+            "an import without access",
+            State {
+                imports: BTreeSet::from([(9, 1)]),
+                ..sound.clone()
+            },
+        ),
+        (
+            "an export without access",
+            State {
+                exports: BTreeSet::from([(9, 1)]),
+                ..sound.clone()
+            },
+        ),
+    ];
+    for (what, state) in unsound {
+        assert!(!state.is_sound(), "{what}");
+        assert_eq!(step(&state, [1, 0, 1, 0]), Err(12), "{what}");
+        assert_eq!(step_record(&to_record(&state), [13, 99, 99, 99]), Err(12), "{what}");
+    }
+    let own_import = State {
+        imports: BTreeSet::from([(9, 0)]),
+        ..sound
+    };
+    assert!(own_import.is_sound(), "An import by the defining area itself is therefore valid.");
+}
+
+// Refusals of an instruction
+
+#[test]
+fn example_of_refusal_12() {
+    let state = State {
+        areas: BTreeSet::from([0, 3]),
+        ..State::founding()
+    };
+    assert_eq!(step(&state, [1, 0, 1, 0]), Err(12));
+    assert_eq!(step_record(&to_record(&state), [1, 0, 1, 0]), Err(12));
+    assert_eq!(access(&state, 0, 64), Err(12));
+}
+
+#[test]
+fn examples_of_refusals_1_to_10() {
+    refused(&[], [13, 0, 0, 0], 1);
+    refused(&[], [7, 0, 0, 64], 2);
+    refused(&[], [1, 5, 1, 0], 3);
+    refused(&[], [7, 0, 6, 0], 4);
+    refused(&[[1, 0, 1, 0], [3, 0, 0, 4]], [7, 4, 1, 9], 5);
+    refused(&[], [1, 0, 0, 0], 6);
+    refused(&[[7, 0, 0, 9]], [10, 0, 0, 9], 7);
+    refused(&[], [4, 0, 0, 0], 8);
+    refused(&[[1, 0, 1, 0], [7, 0, 1, 9]], [2, 0, 1, 0], 9);
+    refused(&[[1, 0, 1, 0], [7, 0, 0, 9]], [9, 0, 1, 9], 10);
+}
+
+#[test]
+fn example_of_refusal_11() {
+    let state = run(&State::founding(), &SESSION[..8]);
+    assert_eq!(step(&state, SESSION[8]), Err(11));
+}
+
+#[test]
+fn example_of_refusal_13() {
+    assert_eq!(transcript(b"1 0 1\n"), b"1 13\nstate 1 1 0 1 0 0 0\n");
+}
+
+#[test]
+fn each_range_of_refusal_2() {
+    for instruction in [
+        [1, 0, 1, 1],
+        [2, 0, 0, 1],
+        [1, 0, 32, 0],
+        [1, 32, 1, 0],
+        [3, 0, 0, 32],
+        [4, 0, 0, 32],
+        [5, 0, 0, 32],
+        [6, 0, 0, 32],
+        [5, 0, 32, 0],
+        [7, 0, 32, 0],
+        [8, 0, 0, 64],
+        [9, 0, 0, 64],
+        [10, 0, 0, 64],
+        [11, 0, 0, 64],
+        [12, 0, 0, 64],
+        [12, 255, 255, 255],
+    ] {
+        refused(&[], instruction, 2);
+    }
+    refused(&[], [9, 0, 0, 63], 4);
+    refused(&[], [5, 0, 0, 31], 4);
+    refused(&[], [1, 31, 1, 0], 3);
+}
+
+#[test]
+fn each_lookup_of_refusal_4() {
+    for code in 2..=12 {
+        refused(&[], [code, 0, 6, 0], 4);
+    }
+    refused(&[], [4, 0, 0, 5], 4);
+    refused(&[], [5, 0, 0, 1], 4);
+    refused(&[], [6, 0, 0, 1], 4);
+    for code in 8..=12 {
+        refused(&[], [code, 0, 0, 9], 4);
+    }
+}
+
+#[test]
+fn each_ownership_of_refusal_5() {
+    let start = [[1, 0, 1, 0], [3, 0, 0, 4], [7, 0, 0, 9]];
+    for instruction in [
+        [2, 4, 1, 0],
+        [3, 4, 1, 4],
+        [4, 4, 1, 0],
+        [7, 4, 1, 9],
+        [8, 4, 1, 9],
+        [9, 4, 1, 9],
+        [10, 4, 1, 9],
+        [11, 4, 1, 9],
+        [12, 4, 1, 9],
+    ] {
+        refused(&start, instruction, 5);
+    }
+    refused(&start, [5, 4, 0, 1], 5);
+    refused(&start, [5, 4, 1, 0], 5);
+    refused(&start, [5, 4, 1, 1], 5);
+    refused(&start, [6, 4, 0, 1], 7); // either is enough
+    refused(&start, [6, 4, 1, 0], 7);
+    refused(&start, [6, 4, 1, 1], 5);
+    accepted(&start, [5, 4, 0, 0]);
+    accepted(&start, [1, 4, 2, 0]); // code 1 needs nothing
+}
+
+#[test]
+fn each_add_of_refusal_6_and_remove_of_refusal_7() {
+    let start = [[1, 0, 1, 0], [7, 0, 0, 9], [5, 0, 1, 0], [9, 0, 1, 9], [11, 0, 0, 9]];
+    for instruction in [
+        [1, 0, 1, 0],
+        [3, 0, 0, 0],
+        [5, 0, 1, 0],
+        [7, 0, 0, 9],
+        [7, 0, 1, 9],
+        [9, 0, 1, 9],
+        [11, 0, 0, 9],
+    ] {
+        refused(&start, instruction, 6);
+    }
+    for instruction in [[6, 0, 0, 1], [8, 0, 1, 9], [10, 0, 0, 9], [12, 0, 1, 9]] {
+        refused(&start, instruction, 7);
+    }
+}
+
+#[test]
+fn each_use_of_refusal_9() {
+    let start = [[1, 0, 1, 0]];
+    assert_eq!(accepted(&start, [2, 0, 1, 0]), State::founding());
+    for uses in [
+        vec![[3, 0, 1, 4]],
+        vec![[7, 0, 1, 9]],
+        vec![[5, 0, 1, 0]],
+        vec![[5, 0, 0, 1]],
+        vec![[5, 0, 1, 1]],
+        vec![[7, 0, 0, 9], [5, 0, 1, 0], [9, 0, 1, 9]],
+        vec![[7, 0, 0, 9], [5, 0, 0, 1], [11, 0, 0, 9], [11, 0, 1, 9]],
+    ] {
+        refused(&[&start[..], &uses].concat(), [2, 0, 1, 0], 9);
+    }
+}
+
+#[test]
+fn adds_and_removes_give_the_state_they_say() {
+    let one = accepted(&[], [1, 0, 1, 0]);
+    assert_eq!((one.areas, one.owners), (BTreeSet::from([0, 1]), BTreeSet::from([(0, 0), (0, 1)])));
+    let owner = accepted(&[], [3, 0, 0, 4]);
+    assert_eq!(
+        (owner.users, owner.owners),
+        (BTreeSet::from([0, 4]), BTreeSet::from([(0, 0), (4, 0)]))
+    );
+    let pair = accepted(&[[1, 0, 1, 0]], [5, 0, 1, 0]);
+    assert_eq!(pair.structure, BTreeSet::from([(1, 0)]));
+    let object = accepted(&[], [7, 0, 0, 9]);
+    assert_eq!(
+        (object.objects, object.definitions),
+        (BTreeSet::from([9]), BTreeSet::from([(9, 0)]))
+    );
+    assert_eq!(accepted(&[[7, 0, 0, 9]], [9, 0, 0, 9]).imports, BTreeSet::from([(9, 0)]));
+    assert_eq!(accepted(&[[7, 0, 0, 9]], [11, 0, 0, 9]).exports, BTreeSet::from([(9, 0)]));
+    // each add taken back by its remove
+    let start: &[[u8; 4]] = &[[1, 0, 1, 0], [7, 0, 0, 9]];
+    for (add, remove) in [
+        ([1, 0, 2, 0], [2, 0, 2, 0]),
+        ([3, 0, 1, 4], [4, 0, 1, 4]),
+        ([5, 0, 1, 0], [6, 0, 1, 0]),
+        ([7, 0, 1, 8], [8, 0, 1, 8]),
+        ([9, 0, 0, 9], [10, 0, 0, 9]),
+        ([11, 0, 0, 9], [12, 0, 0, 9]),
+    ] {
+        assert_eq!(accepted(&[start, &[add]].concat(), remove), from_f(start));
+    }
+}
+
+#[test]
+fn freed_numbers_may_be_listed_again() {
+    accepted(&[[1, 0, 1, 0], [2, 0, 1, 0]], [1, 0, 1, 0]);
+    accepted(&[[3, 0, 0, 4], [4, 0, 0, 4]], [3, 0, 0, 4]);
+    let moved = accepted(&[[1, 0, 1, 0], [7, 0, 0, 9], [8, 0, 0, 9]], [7, 0, 1, 9]);
+    assert_eq!(moved.definitions, BTreeSet::from([(9, 1)]));
+}
+
+#[test]
+fn user_is_unlisted_at_the_last_lost_ownership_only() {
+    let start = [[1, 0, 1, 0], [3, 0, 0, 4], [3, 0, 1, 4]];
+    assert_eq!(accepted(&start, [4, 0, 0, 4]).users, BTreeSet::from([0, 4]));
+    assert_eq!(
+        accepted(&[&start[..], &[[4, 0, 0, 4]]].concat(), [4, 0, 1, 4]).users,
+        BTreeSet::from([0])
+    );
+}
+
+// The access question
+
+#[test]
+fn answer_after_line_8_of_the_session_is_2() {
+    let state = run(&State::founding(), &SESSION[..8]);
+    assert_eq!(access(&state, 0, 9), Ok(Some(2)));
+    assert_eq!(access(&state, 2, 9), Ok(Some(1))); // with no entry of its own
+    assert_eq!(access(&state, 1, 9), Ok(Some(0)));
+    let end = run(&state, &SESSION[8..]);
+    assert_eq!(access(&end, 0, 9), Ok(None));
+}
+
+#[test]
+fn refusals_of_the_access_question() {
+    let state = from_f(&[[7, 0, 0, 9]]);
+    assert_eq!(access(&state, 32, 9), Err(2));
+    assert_eq!(access(&state, 0, 64), Err(2));
+    assert_eq!(access(&state, 31, 64), Err(2));
+    assert_eq!(access(&state, 31, 9), Err(4));
+    assert_eq!(access(&state, 0, 63), Err(4));
+    assert_eq!(access(&state, 0, 9), Ok(Some(0)));
+}
+
+#[test]
+fn export_goes_outwards_and_import_inwards() {
+    let inner_outer = [[1, 0, 1, 0], [5, 0, 0, 1], [7, 0, 0, 9], [7, 0, 1, 8]]; // area 0 in area 1, 9 in 0, 8 in 1
+    assert_eq!(access(&accepted(&inner_outer, [11, 0, 0, 9]), 1, 9), Ok(Some(1)));
+    assert_eq!(access(&accepted(&inner_outer, [9, 0, 0, 8]), 0, 8), Ok(Some(1)));
+    assert_eq!(access(&accepted(&inner_outer, [11, 0, 1, 8]), 0, 8), Ok(None)); // an export by the outer goes nowhere
+    refused(&inner_outer, [9, 0, 1, 9], 10); // an import by the outer brings nothing
+}
+
+#[test]
+fn chain_of_31_steps_and_the_shortest_of_two() {
+    let mut list: Vec<[u8; 4]> = vec![[7, 0, 0, 9]];
+    for area in 1..=31 {
+        list.extend([[1, 0, area, 0], [5, 0, area, area - 1], [9, 0, area, 9]]);
+    }
+    let line = from_f(&list);
+    for area in 0..=31 {
+        assert_eq!(access(&line, area, 9), Ok(Some(area)));
+    }
+    refused(&list, [10, 0, 1, 9], 11); // the lost pairs are many steps off
+    refused(&list, [6, 0, 2, 1], 11);
+    accepted(&list, [10, 0, 31, 9]);
+    let shortcut = accepted(&list, [5, 0, 31, 0]);
+    assert_eq!(access(&shortcut, 31, 9), Ok(Some(1)));
+    assert_eq!(access(&shortcut, 30, 9), Ok(Some(30)));
+}
+
+/// The least chain length by the definition of a step alone: no search, but every pair of areas tried until nothing changes.
+fn least_chain(state: &State, area: u8, object: u8) -> Option<u8> {
+    let is_step = |s: u8, r: u8| {
+        let export = state.exports.contains(&(object, s)) && state.structure.contains(&(s, r));
+        let import = state.imports.contains(&(object, r)) && state.structure.contains(&(r, s));
+        export || import
+    };
+    let mut least: BTreeMap<u8, u8> = state
+        .areas
+        .iter()
+        .filter(|&&at| state.definitions.contains(&(object, at)))
+        .map(|&at| (at, 0))
+        .collect();
+    loop {
+        let known = least.clone();
+        for (&s, &steps) in &known {
+            for &r in state.areas.iter().filter(|&&r| is_step(s, r)) {
+                let best = least.get(&r).map_or(steps + 1, |&other| other.min(steps + 1));
+                least.insert(r, best);
+            }
+        }
+        if least == known {
+            return least.get(&area).copied();
+        }
+    }
+}
+
+#[test]
+fn answers_are_the_least_chains_of_the_definition() {
+    for state in small_states().iter().filter(|state| !state.objects.is_empty()) {
+        for &area in &state.areas {
+            assert_eq!(access(state, area, 0), Ok(least_chain(state, area, 0)));
+        }
+    }
+    // six areas of user 0, two objects, and adds and removes of pairs in a fixed disorder
+    let mut state = from_f(&[
+        [1, 0, 1, 0],
+        [1, 0, 2, 0],
+        [1, 0, 3, 0],
+        [1, 0, 4, 0],
+        [1, 0, 5, 0],
+        [7, 0, 2, 0],
+        [7, 0, 4, 1],
+    ]);
+    let mut number: u32 = 1;
+    for _ in 0..3000 {
+        number = number.wrapping_mul(1_664_525).wrapping_add(1_013_904_223);
+        let [_, low, middle, high] = number.to_le_bytes();
+        let code = [5, 5, 9, 9, 11, 11, 6, 10, 12][usize::from(high) % 9];
+        let b = if code < 7 { middle % 6 } else { middle % 2 };
+        state = run(&state, &[[code, 0, low % 6, b]]);
+        for area in 0..6 {
+            assert_eq!(access(&state, area, middle % 2), Ok(least_chain(&state, area, middle % 2)));
+        }
+    }
+    assert!(state.structure.len() > 5 && state.imports.len() + state.exports.len() > 5);
+}
+
+#[test]
+fn lowest_mark_of_every_byte() {
+    assert_eq!(lowest_mark(0), 8);
+    for (marks, place) in [
+        (1, 0),
+        (2, 1),
+        (4, 2),
+        (8, 3),
+        (16, 4),
+        (32, 5),
+        (64, 6),
+        (128, 7),
+        (255, 0),
+        (254, 1),
+        (160, 5),
+        (12, 2),
+    ] {
+        assert_eq!(lowest_mark(marks), place);
+    }
+    for marks in 1..=u8::MAX {
+        let place = lowest_mark(marks);
+        assert_eq!(marks % (1 << place), 0);
+        assert_eq!((marks >> place) % 2, 1);
+    }
+}
+
+// READINGS 1 to 7
+
+#[test]
+fn reading_1_order_of_checks() {
+    refused(&[], [1, 32, 1, 0], 2); // an activator above 31 is 2 and not 3
+    refused(&[], [1, 255, 1, 0], 2);
+    refused(&[], [0, 255, 255, 255], 1);
+    refused(&[], [13, 255, 255, 255], 1);
+    refused(&[], [255, 255, 255, 255], 1);
+    refused(&[], [7, 5, 6, 64], 2); // 2 before 3 and 4
+    refused(&[], [7, 5, 6, 0], 3); // 3 before 4
+    refused(&[[1, 0, 1, 0], [3, 0, 0, 4]], [9, 4, 1, 9], 4); // 4 before 5
+    refused(&[[1, 0, 1, 0], [3, 0, 0, 4], [7, 0, 1, 9]], [7, 4, 1, 9], 5); // 5 before 6
+}
+
+#[test]
+fn reading_2_code_4() {
+    let start = [[1, 0, 1, 0], [3, 0, 0, 4]]; // 0 owns 0 and 1, 4 owns 0
+    refused(&start, [4, 4, 1, 5], 4); // unlisted b
+    refused(&start, [4, 4, 1, 4], 5); // then an activator who does not own a
+    refused(&start, [4, 0, 1, 4], 7); // a listed b that does not own a
+    refused(&start, [4, 0, 1, 0], 8); // the sole owner
+    let stays = accepted(&start, [4, 0, 0, 0]); // an owner removes himself where another stays
+    assert_eq!(
+        (stays.users, stays.owners),
+        (BTreeSet::from([0, 4]), BTreeSet::from([(0, 1), (4, 0)]))
+    );
+    let gone = accepted(&[[3, 0, 0, 4]], [4, 0, 0, 0]); // and is unlisted if that was his last area
+    assert_eq!((gone.users, gone.owners), (BTreeSet::from([4]), BTreeSet::from([(4, 0)])));
+}
+
+#[test]
+fn reading_3_code_2() {
+    refused(&[], [2, 0, 0, 0], 8);
+    refused(&[[7, 0, 0, 9], [3, 0, 0, 4]], [2, 0, 0, 0], 8); // before 9
+    let shared = [[1, 0, 1, 0], [3, 0, 1, 4]];
+    refused(&shared, [2, 0, 1, 0], 9); // another owner is one other than the activator
+    refused(&shared, [2, 4, 1, 0], 9);
+    refused(&[[1, 0, 1, 0], [5, 0, 1, 1]], [2, 0, 1, 0], 9); // a pair (a, a) counts
+    let unlisted = accepted(&[[3, 0, 0, 4], [1, 4, 1, 0], [4, 0, 0, 4]], [2, 4, 1, 0]);
+    assert_eq!(unlisted, State::founding()); // the activator owns nothing afterwards
+    let stays = accepted(&[[3, 0, 0, 4], [1, 4, 1, 0]], [2, 4, 1, 0]);
+    assert_eq!(stays.users, BTreeSet::from([0, 4]));
+}
+
+#[test]
+fn reading_4_codes_6_and_8() {
+    let itself = [[1, 0, 1, 0], [5, 0, 1, 1], [3, 0, 0, 4]];
+    refused(&itself, [6, 4, 1, 1], 5);
+    assert!(accepted(&itself, [6, 0, 1, 1]).structure.is_empty());
+    let elsewhere = [[1, 0, 1, 0], [7, 0, 0, 9]];
+    refused(&elsewhere, [8, 0, 1, 9], 7);
+    refused(&[[7, 0, 0, 9], [9, 0, 0, 9]], [8, 0, 0, 9], 11); // its own import
+    refused(&[[7, 0, 0, 9], [11, 0, 0, 9]], [8, 0, 0, 9], 11); // its own export
+    refused(&[&elsewhere[..], &[[5, 0, 1, 0], [9, 0, 1, 9]]].concat(), [8, 0, 0, 9], 11); // another area's import
+    accepted(&elsewhere, [8, 0, 0, 9]);
+}
+
+#[test]
+fn reading_5_import_with_no_outer_area() {
+    let reached = [[1, 0, 1, 0], [5, 0, 1, 0], [7, 0, 1, 9], [11, 0, 1, 9]];
+    let state = accepted(&reached, [9, 0, 0, 9]);
+    assert_eq!(access(&state, 0, 9), Ok(Some(1)));
+    assert_eq!(state.imports, BTreeSet::from([(9, 0)]));
+}
+
+#[test]
+fn reading_6_cycles_do_not_vouch() {
+    let cycle = [[1, 0, 1, 0], [1, 0, 2, 0], [7, 0, 0, 9], [5, 0, 1, 2], [5, 0, 2, 1]];
+    refused(&cycle, [9, 0, 1, 9], 10);
+    refused(&cycle, [11, 0, 1, 9], 10);
+    let mut vouching = from_f(&cycle);
+    vouching.imports = BTreeSet::from([(9, 1), (9, 2)]);
+    assert!(!vouching.is_sound());
+    // the same cycle, reached from the definer and then cut off from it
+    let fed = [&cycle[..], &[[5, 0, 1, 0], [9, 0, 1, 9], [9, 0, 2, 9]]].concat();
+    refused(&fed, [6, 0, 1, 0], 11);
+}
+
+#[test]
+fn reading_7_lending_guarantee() {
+    let f = State::founding();
+    let list = [[1, 0, 1, 0]];
+    assert!(lending_guarantee(&f, &list, &run(&f, &list), 1).is_err()); // an unlisted area: the claim is false
+                                                                        // area 1 of user 4 imports object 9 from area 0 of user 0
+    let start = from_f(&[[3, 0, 0, 4], [1, 4, 1, 0], [5, 4, 1, 0], [4, 4, 0, 4], [7, 0, 0, 9], [9, 4, 1, 9]]);
+    let attack: Vec<[u8; 4]> = vec![
+        [6, 0, 1, 0],
+        [8, 0, 0, 9],
+        [10, 0, 1, 9],
+        [4, 0, 1, 4],
+        [2, 0, 1, 0],
+        [11, 0, 0, 9],
+        [99, 1, 2, 3],
+    ];
+    let after = run(&start, &attack);
+    assert_eq!(access(&after, 1, 9), Ok(Some(1)));
+    assert_eq!(lending_guarantee(&start, &attack, &after, 1), Ok(()));
+    assert_eq!(lending_guarantee(&start, &[], &start, 1), Ok(()));
+    // states that break it
+    let lost_access = State {
+        structure: BTreeSet::new(),
+        ..start.clone()
+    };
+    let lost_import = State {
+        imports: BTreeSet::new(),
+        ..start.clone()
+    };
+    let new_owner = State {
+        owners: start.owners.iter().copied().chain([(0, 1)]).collect(),
+        ..start.clone()
+    };
+    let new_export = State {
+        exports: BTreeSet::from([(9, 1)]),
+        ..start.clone()
+    };
+    for broken in [lost_access, lost_import, new_owner, new_export] {
+        assert!(lending_guarantee(&start, &attack, &broken, 1).is_err());
+        assert_eq!(lending_guarantee(&start, &[[0, 4, 0, 0]], &broken, 1), Ok(()));
+        // an owner activates, refused or not
+    }
+}
+
+#[test]
+fn reading_7_what_the_guarantee_does_not_keep() {
+    // area 1 of user 4 has access to 9 by the export of area 0, with no entry of its own; user 0 takes the pair away
+    let start = from_f(&[[3, 0, 0, 4], [1, 4, 1, 0], [5, 4, 0, 1], [4, 4, 0, 4], [7, 0, 0, 9], [11, 0, 0, 9]]);
+    assert_eq!(access(&start, 1, 9), Ok(Some(1)));
+    let list = [[6, 0, 0, 1]];
+    let after = run(&start, &list);
+    assert!(after.structure.is_empty());
+    assert_eq!(access(&after, 1, 9), Ok(None));
+    assert_eq!(lending_guarantee(&start, &list, &after, 1), Ok(()));
+    // and the other way: by the export of user 0 access is gained
+    let bare = from_f(&[[3, 0, 0, 4], [1, 4, 1, 0], [5, 4, 0, 1], [4, 4, 0, 4], [7, 0, 0, 9]]);
+    assert_eq!(access(&bare, 1, 9), Ok(None));
+    assert_eq!(run(&bare, &[[11, 0, 0, 9]]), start);
+    assert_eq!(lending_guarantee(&bare, &[[11, 0, 0, 9]], &start, 1), Ok(()));
+}
+
+// The site file
+
+/// F as a site file, byte by byte.
+const FOUNDING_FILE: [u8; 30] = [
+    1, 0, 30, 0, 1, 0, 0, 0, 0, 0, 0, 0, 0, 0, 0, 0, 28, 0, 30, 0, 30, 0, 30, 0, 30, 0, 30, 0, 0, 0,
+];
+
+#[test]
+fn founding_file_by_hand() {
+    assert_eq!(file(&[[0, 0]], NO, NO, NO, NO, NO_LABELS), FOUNDING_FILE);
+    assert_eq!(read_file(&FOUNDING_FILE), Ok((State::founding(), BTreeMap::new())));
+    assert_eq!(write_file(&State::founding(), &BTreeMap::new()), FOUNDING_FILE);
+}
+
+#[test]
+fn file_after_line_8_of_the_session_by_hand() {
+    let expected = file(
+        &[[0, 0], [0, 1], [0, 2]],
+        &[[9, 1]],
+        &[[0, 2], [1, 2]],
+        &[[9, 0]],
+        &[[9, 1]],
+        &[entry(2, 4, b"LOOP")],
+    );
+    let state = run(&State::founding(), &SESSION[..8]);
+    let labels = BTreeMap::from([(2, b"LOOP".to_vec())]);
+    assert_eq!(expected.len(), 28 + 6 + 2 + 4 + 2 + 2 + 32);
+    assert_eq!(write_file(&state, &labels), expected);
+    assert_eq!(read_file(&expected), Ok((state, labels)));
+}
+
+#[test]
+fn examples_of_reader_refusals_21_to_25() {
+    assert_eq!(read_file(&[]), Err(21));
+    assert_eq!(read_file(&FOUNDING_FILE[..27]), Err(21));
+    let mut version_0 = FOUNDING_FILE;
+    version_0[0] = 0;
+    assert_eq!(read_file(&version_0), Err(22));
+    let mut version_257 = FOUNDING_FILE;
+    version_257[1] = 1;
+    assert_eq!(read_file(&version_257), Err(22));
+    let mut stated_28 = FOUNDING_FILE;
+    stated_28[2] = 28;
+    assert_eq!(read_file(&stated_28), Err(23));
+    let mut definitions_65 = FOUNDING_FILE;
+    definitions_65[6] = 65;
+    assert_eq!(read_file(&definitions_65), Err(24));
+    let mut owners_at_29 = FOUNDING_FILE;
+    owners_at_29[16] = 29;
+    assert_eq!(read_file(&owners_at_29), Err(25));
+}
+
+#[test]
+fn every_count_limit_and_offset() {
+    for (table, limit) in [1024_u16, 64, 1024, 2048, 2048, 32].into_iter().enumerate() {
+        let mut bytes = FOUNDING_FILE;
+        bytes[4 + 2 * table..6 + 2 * table].copy_from_slice(&(limit + 1).to_le_bytes());
+        assert_eq!(read_file(&bytes), Err(24));
+        bytes[4 + 2 * table..6 + 2 * table].copy_from_slice(&limit.to_le_bytes());
+        assert_eq!(read_file(&bytes), Err(25)); // the tables then stand elsewhere, or the end does
+    }
+    for table in 0..6 {
+        for wrong in [0, 27, 31, 255] {
+            let mut bytes = FOUNDING_FILE;
+            bytes[16 + 2 * table] = wrong;
+            assert_eq!(read_file(&bytes), Err(25));
+            let mut high = FOUNDING_FILE;
+            high[17 + 2 * table] = 1;
+            assert_eq!(read_file(&high), Err(25));
+        }
+    }
+    let mut longer = FOUNDING_FILE.to_vec();
+    longer.extend([0, 0]);
+    longer[2] = 32;
+    assert_eq!(read_file(&longer), Err(25)); // the end
+}
+
+#[test]
+fn examples_of_reader_refusals_26_to_29() {
+    assert_eq!(read_file(&file(&[[0, 0], [0, 32]], NO, NO, NO, NO, NO_LABELS)), Err(26));
+    assert_eq!(read_file(&file(&[[0, 0], [0, 0]], NO, NO, NO, NO, NO_LABELS)), Err(27));
+    assert_eq!(read_file(&file(&[[0, 0]], NO, NO, NO, NO, &[entry(5, 1, b"x")])), Err(28));
+    assert_eq!(
+        read_file(&file(&[[0, 0], [0, 1]], &[[9, 0]], NO, &[[9, 1]], NO, NO_LABELS)),
+        Err(29)
+    );
+}
+
+#[test]
+fn every_table_can_be_out_of_range() {
+    let owner = &[[0, 0]];
+    for wrong in [[32, 0], [0, 32], [255, 0], [0, 255]] {
+        assert_eq!(read_file(&file(&[wrong], NO, NO, NO, NO, NO_LABELS)), Err(26));
+        assert_eq!(read_file(&file(owner, NO, &[wrong], NO, NO, NO_LABELS)), Err(26));
+    }
+    for wrong in [[64, 0], [0, 32], [255, 0], [0, 255]] {
+        assert_eq!(read_file(&file(owner, &[wrong], NO, NO, NO, NO_LABELS)), Err(26));
+        assert_eq!(read_file(&file(owner, NO, NO, &[wrong], NO, NO_LABELS)), Err(26));
+        assert_eq!(read_file(&file(owner, NO, NO, NO, &[wrong], NO_LABELS)), Err(26));
+    }
+}
+
+#[test]
+fn every_table_is_strictly_ascending() {
+    let two = &[[0, 0], [0, 1]];
+    let backwards = &[[0, 1], [0, 0]];
+    let twice = &[[0, 0], [0, 0]];
+    let first_backwards = &[[1, 0], [0, 1]];
+    for wrong in [backwards, twice, first_backwards] {
+        assert_eq!(read_file(&file(wrong, NO, NO, NO, NO, NO_LABELS)), Err(27));
+        assert_eq!(read_file(&file(two, wrong, NO, NO, NO, NO_LABELS)), Err(27));
+        assert_eq!(read_file(&file(two, NO, wrong, NO, NO, NO_LABELS)), Err(27));
+        assert_eq!(read_file(&file(two, NO, NO, wrong, NO, NO_LABELS)), Err(27));
+        assert_eq!(read_file(&file(two, NO, NO, NO, wrong, NO_LABELS)), Err(27));
+    }
+    assert_eq!(
+        read_file(&file(two, NO, NO, NO, NO, &[entry(1, 1, b"a"), entry(0, 1, b"b")])),
+        Err(27)
+    );
+    assert_eq!(
+        read_file(&file(two, NO, NO, NO, NO, &[entry(1, 1, b"a"), entry(1, 1, b"b")])),
+        Err(27)
+    );
+}
+
+#[test]
+fn reading_8_lowest_number_over_the_whole_file() {
+    // 26 in the last table, 27 in the first
+    let wrong_label = &[entry(32, 1, b"x")];
+    assert_eq!(read_file(&file(&[[0, 0], [0, 0]], NO, NO, NO, NO, wrong_label)), Err(26));
+    // 27 in the labels, 28 in the definitions
+    let twice = &[entry(0, 1, b"x"), entry(0, 1, b"x")];
+    assert_eq!(read_file(&file(&[[0, 0]], &[[9, 5]], NO, NO, NO, twice)), Err(27));
+    // 28 in the labels, 29 in the imports
+    let two = &[[0, 0], [0, 1]];
+    assert_eq!(read_file(&file(two, &[[9, 0]], NO, &[[9, 1]], NO, &[entry(5, 1, b"x")])), Err(28));
+    // no number wraps: 65,536 bytes and more cannot state their own length
+    for length in [65_536, 65_536 + 30] {
+        let mut long = FOUNDING_FILE.to_vec();
+        long.resize(length, 0);
+        assert_eq!(read_file(&long), Err(23));
+        long[2] = 0;
+        assert_eq!(read_file(&long), Err(23));
+        long[0] = 0;
+        assert_eq!(read_file(&long), Err(22));
+    }
+}
+
+#[test]
+fn reading_8_largest_file_has_13468_bytes() {
+    let all = |rows: u8| -> BTreeSet<(u8, u8)> { (0..rows).flat_map(|first| (0..32).map(move |area| (first, area))).collect() };
+    let full = State {
+        users: (0..32).collect(),
+        areas: (0..32).collect(),
+        objects: (0..64).collect(),
+        owners: all(32),
+        definitions: (0..64).map(|object| (object, object % 32)).collect(),
+        structure: all(32),
+        imports: all(64),
+        exports: all(64),
+    };
+    let labels: Labels = (0..32).map(|area| (area, vec![b'~'; 30])).collect();
+    let bytes = write_file(&full, &labels);
+    assert!(full.is_sound());
+    assert_eq!(bytes.len(), 13_468);
+    assert_eq!(read_file(&bytes), Ok((full.clone(), labels)));
+    assert_eq!(label(&bytes, 31), (13_468 - 30, 30));
+    assert_eq!(from_record(&to_record(&full)), Some(full));
+}
+
+#[test]
+fn reading_9_what_26_covers_of_a_label() {
+    let with = |entry: [u8; 32]| read_file(&file(&[[0, 0]], NO, NO, NO, NO, &[entry])).map(|(_, labels)| labels);
+    for wrong in [
+        entry(32, 1, b"x"),
+        entry(0, 0, b""),
+        entry(0, 31, &[b'x'; 30]),
+        entry(0, 255, &[b'x'; 30]),
+        entry(0, 1, &[31]),
+        entry(0, 1, &[127]),
+        entry(0, 2, b"x"),
+        entry(0, 1, b"xy"),
+        entry(0, 1, &[b'x', 0, 0, b' ']),
+    ] {
+        assert_eq!(with(wrong), Err(26));
+    }
+    assert_eq!(with(entry(0, 2, &[32, 126])), Ok(BTreeMap::from([(0, vec![32, 126])])));
+    assert_eq!(with(entry(0, 30, &[b'x'; 30])), Ok(BTreeMap::from([(0, vec![b'x'; 30])])));
+}
+
+#[test]
+fn reading_9_what_28_covers() {
+    let owner = &[[0, 0]];
+    let defined = &[[9, 0]];
+    assert_eq!(read_file(&file(NO, NO, NO, NO, NO, NO_LABELS)), Err(28)); // no owner pair
+    assert_eq!(read_file(&file(owner, &[[9, 1]], NO, NO, NO, NO_LABELS)), Err(28));
+    assert_eq!(read_file(&file(owner, NO, &[[0, 1]], NO, NO, NO_LABELS)), Err(28));
+    assert_eq!(read_file(&file(owner, NO, &[[1, 0]], NO, NO, NO_LABELS)), Err(28));
+    assert_eq!(read_file(&file(owner, defined, NO, &[[9, 1]], NO, NO_LABELS)), Err(28));
+    assert_eq!(read_file(&file(owner, defined, NO, NO, &[[9, 1]], NO_LABELS)), Err(28));
+    assert_eq!(read_file(&file(owner, defined, NO, &[[8, 0]], NO, NO_LABELS)), Err(28));
+    assert_eq!(read_file(&file(owner, defined, NO, NO, &[[8, 0]], NO_LABELS)), Err(28));
+    assert_eq!(read_file(&file(owner, NO, NO, NO, NO, &[entry(1, 1, b"x")])), Err(28));
+    assert_eq!(
+        read_file(&file(&[[0, 0], [0, 1]], &[[9, 0], [9, 1]], NO, NO, NO, NO_LABELS)),
+        Err(28)
+    ); // defined twice
+    assert!(read_file(&file(owner, defined, &[[0, 0]], defined, defined, NO_LABELS)).is_ok());
+}
+
+#[test]
+fn reading_10_label_finder() {
+    let two = &[[0, 0], [0, 1], [0, 3]];
+    let bytes = file(two, NO, NO, NO, NO, &[entry(0, 4, b"HALL"), entry(3, 6, b"LOOP 3")]);
+    assert_eq!(label(&bytes, 0), (28 + 6 + 2, 4));
+    assert_eq!(label(&bytes, 3), (28 + 6 + 32 + 2, 6));
+    assert_eq!(&bytes[68..74], b"LOOP 3");
+    for area in [1, 2, 4, 31, 32, 35, 255] {
+        assert_eq!(label(&bytes, area), (0, 0));
+    }
+    let mut refused = bytes.clone();
+    refused[0] = 2;
+    assert_eq!(label(&refused, 0), (0, 0));
+    assert_eq!(label(&bytes[..20], 0), (0, 0));
+    assert_eq!(label(&[], 0), (0, 0));
+}
+
+// The program
+
+/// One line for each instruction.
+fn lines(list: &[[u8; 4]]) -> Vec<u8> {
+    list.iter()
+        .flat_map(|[code, activator, a, b]| format!("{code} {activator} {a} {b}\n").into_bytes())
+        .collect()
+}
+
+#[test]
+fn session_with_its_whole_output() {
+    let input = b"1 0 1 0\n1 0 2 0\n5 0 1 2\n5 0 0 2\n7 0 1 9\n9 0 0 9\n11 0 1 9\n9 0 0 9\n12 0 1 9\n3 0 0 4\n10 4 0 9\n6 4 0 2\n";
+    let output = "1 0\n2 0\n3 0\n4 0\n5 0\n6 10\n7 0\n8 0\n9 11\n10 0\n11 0\n12 0\nstate 2 3 1 4 1 0 1\n";
+    assert_eq!(lines(SESSION), input);
+    assert_eq!(String::from_utf8(transcript(input)).as_deref(), Ok(output));
+}
+
+#[test]
+fn empty_input_has_no_line() {
+    assert_eq!(transcript(b""), b"state 1 1 0 1 0 0 0\n");
+}
+
+#[test]
+fn reading_11_unreadable_lines() {
+    let unreadable: [&[u8]; 24] = [
+        b"\n",
+        b"1 0 1 0\r\n",
+        b"1\t0 1 0\n",
+        b"1  0 1 0\n",
+        b" 1 0 1 0\n",
+        b"1 0 1 0 \n",
+        b"+1 0 1 0\n",
+        b"1 -0 1 0\n",
+        b"1 00 1 0\n",
+        b"01 0 1 0\n",
+        b"1 0 01 0\n",
+        b"1 0 1 256\n",
+        b"1 0 1 1000\n",
+        b"1 0 1 99999999999999999999\n",
+        b"1 0 1\n",
+        b"1 0 1 0 0\n",
+        b"1 0 1 x\n",
+        b"1 0 1 0",
+        b"1",
+        b" ",
+        b"   \n",
+        b"1 0 1 0\0\n",
+        b"1,0,1,0\n",
+        b"\xff 0 1 0\n",
+    ];
+    for line in unreadable {
+        assert_eq!(
+            String::from_utf8(transcript(line)).as_deref(),
+            Ok("1 13\nstate 1 1 0 1 0 0 0\n"),
+            "{line:?}"
+        );
+    }
+    assert_eq!(transcript(b"255 255 255 255\n"), b"1 1\nstate 1 1 0 1 0 0 0\n");
+    assert_eq!(transcript(b"1 0 1 0\n1 0 2 0"), b"1 0\n2 13\nstate 1 2 0 2 0 0 0\n"); // the last is not obeyed
+    assert_eq!(transcript(b"1 0 1 0\n\n1 0 2 0\n"), b"1 0\n2 13\n3 0\nstate 1 3 0 3 0 0 0\n");
+    assert_eq!(transcript(b"\n\n"), b"1 13\n2 13\nstate 1 1 0 1 0 0 0\n");
+}
+
+#[test]
+fn reading_11_longest_input() {
+    let most = b"1 0 1 0\n".repeat(8192);
+    assert_eq!(most.len(), 65_536);
+    let output = String::from_utf8(transcript(&most)).expect("text");
+    assert!(output.starts_with("1 0\n2 6\n3 6\n"));
+    assert!(output.ends_with("\n8192 6\nstate 1 2 0 2 0 0 0\n"));
+    assert_eq!(output.lines().count(), 8193);
+    assert_eq!(transcript(&[&most[..], b"\n"].concat()), b"too long\n");
+    assert_eq!(transcript(&[b'x'; 65_537]), b"too long\n");
+    assert_eq!(transcript(&[b'x'; 65_536]), b"1 13\nstate 1 1 0 1 0 0 0\n");
+}
+
+// The small states
+
+/// By hand. One area (two choices), 3 sets of owners, 2 structures: without the object 1, with it 2 imports by 2 exports: 2 * 3 * 2 * 5
+/// = 60. Two areas, 9 sets of owners: without the object 16 structures. With it, defined in one of 2 areas, say in d, the other r: the
+/// pairs (d, d) and (r, r) and the import by d are free, 8. The rest by the pairs (d, r) and (r, d): neither 2 (r has no entry), the
+/// first alone 1 + 4 (by the export of d), the second alone 2 * 3 (r has none, or imports), both 4 + 3; 20. 9 * (16 + 2 * 8 * 20) =
+/// 3,024.
+#[test]
+fn small_states_are_3084() {
+    let states = small_states();
+    assert_eq!(states.len(), 60 + 3024);
+    assert!(states.contains(&State::founding()));
+    assert!(states.iter().all(State::is_sound));
+}
+
+#[test]
+fn small_states_go_round_through_record_and_file() {
+    for state in small_states() {
+        let labels: Labels = state
+            .areas
+            .iter()
+            .map(|&area| (area, vec![b'A' + area; 1 + usize::from(area)]))
+            .collect();
+        assert_eq!(from_record(&to_record(&state)).as_ref(), Some(&state));
+        assert_eq!(read_file(&write_file(&state, &labels)), Ok((state, labels)));
+    }
+}
+
+/// The state after an accepted instruction is sound, and is closed under the numbers that it uses.
+#[test]
+fn small_states_step_to_small_states() {
+    let states = small_states();
+    for state in states.iter().step_by(7) {
+        for code in 0..=13 {
+            for rest in 0..8 {
+                let instruction = [code, rest / 4, rest / 2 % 2, if (7..=12).contains(&code) { 0 } else { rest % 2 }];
+                if let Ok(next) = step(state, instruction) {
+                    assert!(states.contains(&next), "{instruction:?} at {state:?}");
+                }
+            }
+        }
+    }
+}

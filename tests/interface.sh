@@ -1,0 +1,128 @@
+#!/usr/bin/env bash
+# The library as its callers meet it: a C program against the archive, an installed copy and a shared object; the examples in C and
+# Rust; the tests of the Rust package. It takes target/lib/libpanelrights.a as `make lib` left it.
+set -euo pipefail
+cd "$(dirname "$0")/.."
+unset PANELRIGHTS_LIB_DIR
+export CARGO_TARGET_DIR=target/cargo
+library=target/lib/libpanelrights.a
+work=$(mktemp -d)
+trap 'rm -rf "$work"' EXIT
+
+fail() {
+    echo "interface: $*" >&2
+    exit 1
+}
+
+# Runs a command that should succeed, and shows what it printed only if it does not.
+quietly() {
+    "$@" >"$work/log" 2>&1 || { cat "$work/log" >&2; fail "failed: $*"; }
+}
+
+compile_c() {
+    quietly gcc -std=c99 -O2 -Wall -Wextra -Werror -pedantic "$@"
+}
+
+checks=(tests/interface/{main,machine,records,files,edges,check}.c)
+
+# The C checks, built with the flags given to the compiler; prints how many there were.
+run_checks() {
+    compile_c "${checks[@]}" "$@" -o "$work/checks"
+    "$work/checks" || fail "the checks in C fail (built with $*)"
+}
+
+# The program must end with the status, print what the file has, and write the complaint, if any, to standard error.
+expect() {
+    local status=$1 expected=$2 complaint=$3 ended=0
+    shift 3
+    "$@" >"$work/printed" 2>"$work/complaint" || ended=$?
+    [ "$ended" = "$status" ] || fail "$*: it ended with $ended and not with $status"
+    cmp "$work/printed" "$expected" || fail "$*: it printed something else"
+    [ "$(cat "$work/complaint")" = "$complaint" ] || fail "$*: it complained: $(cat "$work/complaint")"
+}
+
+# The bytes that a text has in hexadecimal, with remarks behind '#'.
+bytes_of() {
+    printf '%b' "$(sed 's/#.*//; s/[0-9a-f][0-9a-f]/\\x&/g' "$1" | tr -d ' \n')"
+}
+
+# The school's site file with one byte changed, as $work/changed.site.
+change_school() {
+    local place=$1 byte=$2
+    cp examples/school.site "$work/changed.site"
+    printf '%b' "\\x$byte" | dd of="$work/changed.site" bs=1 seek="$place" conv=notrunc status=none
+}
+
+# Both programs refuse the changed file with the number, in the same words.
+expect_refusal() {
+    local number=$1 ended=0
+    target/examples/handover-rust "$work/changed.site" >"$work/expected" || ended=$?
+    [ "$ended" = 1 ] || fail "refusal $number: the example in Rust ended with $ended"
+    grep -q "^Refused as $number\. [A-Z].*\.$" "$work/expected" || fail "refusal $number: $(cat "$work/expected")"
+    expect 1 "$work/expected" '' target/examples/handover-c "$work/changed.site"
+}
+
+[ -f "$library" ] || fail "$library is not there: run make lib"
+
+# The archive has the header's functions and no other name, asks for memcpy and memset, and has nothing that can be written to.
+declared=$(grep -o 'panelrights_[a-z_]*(' include/panelrights.h | tr -d '(' | sort -u)
+[ "$(nm -g --defined-only "$library" | awk 'NF == 3 { print $3 }' | sort)" = "$declared" ] || fail 'the archive has other names than the header'
+asked=$(nm -g --undefined-only "$library" | awk 'NF == 2 && $2 !~ /^mem(cpy|set)$/ { print $2 }')
+[ -z "$asked" ] || fail "the archive asks for $asked"
+[ -z "$(nm "$library" | awk '$2 ~ /^[bBcCdDsS]$/')" ] || fail 'the archive has data that can be written to'
+
+printed=$(run_checks -Iinclude "$library")
+quietly g++ -std=c++11 -Wall -Wextra -Werror -pedantic -Iinclude tests/interface/header.cc "$library" -o "$work/header"
+quietly "$work/header"
+compile_c -pthread -Iinclude tests/interface/{stack,files,check}.c "$library" -o "$work/stack"
+stack=$("$work/stack") || fail "the stack of a call: $stack"
+echo "interface: $printed in C; the header in C++; $stack"
+
+quietly make -o lib install PREFIX="$work/usr"
+quietly make -o lib install PREFIX=/opt/site DESTDIR="$work/staged"
+for place in "$work/usr" "$work/staged/opt/site"; do
+    cmp include/panelrights.h "$place/include/panelrights.h" || fail 'the header is not installed'
+    cmp "$library" "$place/lib/libpanelrights.a" || fail 'the library is not installed'
+done
+grep -qx 'prefix=/opt/site' "$work/staged/opt/site/lib/pkgconfig/panelrights.pc" || fail "panelrights.pc names another prefix"
+flags=("-I$work/usr/include" "-L$work/usr/lib" -lpanelrights)
+if command -v pkg-config >"$work/log"; then
+    read -ra flags < <(PKG_CONFIG_PATH="$work/usr/lib/pkgconfig" pkg-config --cflags --libs panelrights)
+else
+    echo 'interface: pkg-config is not here, so its file is not tried'
+fi
+installed=$(run_checks "${flags[@]}")
+
+mkdir "$work/shared"
+quietly gcc -shared -Wl,-z,defs -Wl,--whole-archive "$library" -Wl,--no-whole-archive -o "$work/shared/libpanelrights.so"
+shared=$(run_checks -Iinclude -L"$work/shared" -Wl,-rpath,"$work/shared" -lpanelrights)
+echo "interface: $installed against the installed copy, $shared against a shared object"
+
+bytes_of examples/school.txt | cmp - examples/school.site || fail "examples/school.txt has other bytes than school.site"
+change_school 63 03
+cmp "$work/changed.site" examples/damaged.site || fail "examples/damaged.site is not what README.md there says"
+quietly make -o lib examples CFLAGS='-std=c99 -O2 -Wall -Wextra -Werror -pedantic'
+for program in target/examples/handover-c target/examples/handover-rust; do
+    expect 0 examples/school.out '' "$program" examples/school.site
+    expect 1 examples/damaged.out '' "$program" examples/damaged.site
+    expect 2 /dev/null 'usage: handover FILE' "$program"
+    expect 2 /dev/null 'usage: handover FILE' "$program" examples/school.site examples/school.site
+    expect 2 /dev/null "handover: the file can't be read" "$program" "$work/nowhere"
+    expect 2 /dev/null "handover: the file can't be read" "$program" "$work"
+    # shellcheck disable=SC2016 # the inner shell fills in its own arguments
+    expect 2 /dev/null "handover: the output can't be written" sh -c '"$1" examples/school.site >/dev/full' sh "$program"
+done
+head -c 27 examples/school.site >"$work/changed.site"
+expect_refusal 21
+# Version 0; a byte too many; 65 definitions; owners at 29; area 32; a pair twice; a label for an unlisted area; the hall in loop 2.
+for change in '22 0 00' '23 344 00' '24 6 41' '25 16 1d' '26 29 20' '27 31 00' '28 312 09' '29 63 03'; do
+    read -r number place byte <<<"$change"
+    change_school "$place" "$byte"
+    expect_refusal "$number"
+done
+echo 'interface: the examples in C and in Rust print what is stored for the school, and the same words for each refusal of a file'
+
+PANELRIGHTS_LIB_DIR=$work/usr/lib quietly cargo test --quiet --locked --manifest-path bindings/rust/Cargo.toml
+passed=$(awk '/^test result: ok/ { passed += $4 } END { print passed + 0 }' "$work/log")
+[ "$passed" -gt 0 ] || fail 'no test of the Rust package was run'
+echo "interface: $passed tests of the Rust package, with the installed copy"

@@ -1,0 +1,68 @@
+/* Buffers that end, or begin, where memory ends: a call that reads or writes a byte too far stops the
+ * program. */
+#define _DEFAULT_SOURCE
+#include "tests.h"
+
+#include <string.h>
+#include <sys/mman.h>
+
+/* Room for a record or a file, with a page that may not be touched on either side. */
+enum { ROOM = 1 << 16 };
+
+static uint8_t *room(void)
+{
+    uint8_t *memory = mmap(NULL, 3 * (size_t)ROOM, PROT_NONE, MAP_PRIVATE | MAP_ANONYMOUS, -1, 0);
+
+    CHECK(memory != MAP_FAILED);
+    CHECK(mprotect(memory + ROOM, ROOM, PROT_READ | PROT_WRITE) == 0);
+    return memory + ROOM;
+}
+
+static void use_record(uint8_t *state)
+{
+    CHECK_NUMBER(panelrights_founding(state, PANELRIGHTS_STATE_BYTES), PANELRIGHTS_OK);
+    CHECK_NUMBER(panelrights_step(state, PANELRIGHTS_STATE_BYTES, PANELRIGHTS_LIST_AREA, 0, 31, 0),
+                 PANELRIGHTS_OK);
+    CHECK_NUMBER(panelrights_step(state, PANELRIGHTS_STATE_BYTES, PANELRIGHTS_DEFINE, 0, 31, 63),
+                 PANELRIGHTS_OK);
+    CHECK_NUMBER(panelrights_access(state, PANELRIGHTS_STATE_BYTES, 31, 63), 0);
+    CHECK_NUMBER(panelrights_read_file(good_file, sizeof good_file, state, PANELRIGHTS_STATE_BYTES),
+                 PANELRIGHTS_OK);
+}
+
+/* A record of another length is not looked at beyond it. */
+static void use_short_record(uint8_t *state, size_t length)
+{
+    CHECK_NUMBER(panelrights_founding(state, length), PANELRIGHTS_STATE_LENGTH);
+    CHECK_NUMBER(panelrights_step(state, length, PANELRIGHTS_LIST_AREA, 0, 31, 0), PANELRIGHTS_UNSOUND_STATE);
+    CHECK_NUMBER(panelrights_access(state, length, 0, 0),
+                 PANELRIGHTS_ACCESS_REFUSED + PANELRIGHTS_UNSOUND_STATE);
+}
+
+/* The first bytes of the good file: all of it is accepted, and fewer are refused. */
+static void use_file(uint8_t *file, size_t length)
+{
+    struct guarded site;
+    uint8_t refusal = length < 28                 ? PANELRIGHTS_FILE_TOO_SHORT
+                      : length < sizeof good_file ? PANELRIGHTS_FILE_LENGTH
+                                                  : PANELRIGHTS_OK;
+
+    memcpy(file, good_file, length);
+    CHECK_NUMBER(panelrights_read_file(file, length, site.state, sizeof site.state), refusal);
+    CHECK_NUMBER(panelrights_label(file, length, 2), refusal == PANELRIGHTS_OK ? 78 * 65536 + 30 : 0);
+}
+
+void test_edges(void)
+{
+    uint8_t *begin = room(), *end = begin + ROOM;
+    size_t length;
+
+    use_record(begin);
+    use_record(end - PANELRIGHTS_STATE_BYTES);
+    for (length = 0; length < PANELRIGHTS_STATE_BYTES; length += 65)
+        use_short_record(end - length, length);
+    use_file(begin, sizeof good_file);
+    for (length = 0; length <= sizeof good_file; length++)
+        use_file(end - length, length);
+    CHECK(munmap(begin - ROOM, 3 * (size_t)ROOM) == 0);
+}

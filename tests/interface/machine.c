@@ -1,0 +1,125 @@
+/* The session of document 01, the examples of its table of refusals, and the access question. */
+#include "tests.h"
+
+#include <string.h>
+
+struct line {
+    uint8_t instruction[4];
+    uint8_t answer;
+};
+
+static const struct line session[12] = {
+    {{1, 0, 1, 0}, 0},   {{1, 0, 2, 0}, 0},  {{5, 0, 1, 2}, 0},  {{5, 0, 0, 2}, 0},
+    {{7, 0, 1, 9}, 0},   {{9, 0, 0, 9}, 10}, {{11, 0, 1, 9}, 0}, {{9, 0, 0, 9}, 0},
+    {{12, 0, 1, 9}, 11}, {{3, 0, 0, 4}, 0},  {{10, 4, 0, 9}, 0}, {{6, 4, 0, 2}, 0},
+};
+
+/* The founding state after the first lines of the session. */
+static void run_session(struct guarded *site, size_t lines)
+{
+    size_t i;
+
+    found(site);
+    for (i = 0; i < lines; i++)
+        step(site, session[i].instruction, session[i].answer);
+}
+
+static uint16_t ask(const struct guarded *site, uint8_t area, uint8_t object)
+{
+    return panelrights_access(site->state, sizeof site->state, area, object);
+}
+
+/* `state 2 3 1 4 1 0 1`, each number and pair in its place. */
+static void test_session(void)
+{
+    uint8_t expected[PANELRIGHTS_STATE_BYTES] = {0};
+    struct guarded site;
+
+    run_session(&site, 8);
+    CHECK_NUMBER(ask(&site, 0, 9), 2);
+    CHECK_NUMBER(ask(&site, 1, 9), 0);
+    CHECK_NUMBER(ask(&site, 2, 9), 1);
+
+    run_session(&site, 12);
+    expected[PANELRIGHTS_USER(0)] = expected[PANELRIGHTS_USER(4)] = 1;
+    expected[PANELRIGHTS_AREA(0)] = expected[PANELRIGHTS_AREA(1)] = expected[PANELRIGHTS_AREA(2)] = 1;
+    expected[PANELRIGHTS_OBJECT(9)] = 1;
+    expected[PANELRIGHTS_OWNER(0, 0)] = expected[PANELRIGHTS_OWNER(0, 1)] = 1;
+    expected[PANELRIGHTS_OWNER(0, 2)] = expected[PANELRIGHTS_OWNER(4, 0)] = 1;
+    expected[PANELRIGHTS_DEFINITION(9, 1)] = 1;
+    expected[PANELRIGHTS_STRUCTURE(1, 2)] = 1;
+    expected[PANELRIGHTS_EXPORT(9, 1)] = 1;
+    CHECK(memcmp(site.state, expected, sizeof expected) == 0);
+    CHECK_NUMBER(ask(&site, 0, 9), PANELRIGHTS_NO_ACCESS);
+}
+
+/* So many instructions that are accepted, and one that is refused. */
+static const struct {
+    size_t accepted;
+    uint8_t lines[6][4];
+    uint8_t refusal;
+} examples[] = {
+    {0, {{13, 0, 0, 0}}, PANELRIGHTS_UNKNOWN_CODE},
+    {0, {{0, 255, 255, 255}}, PANELRIGHTS_UNKNOWN_CODE},
+    {0, {{255, 0, 0, 0}}, PANELRIGHTS_UNKNOWN_CODE},
+    {0, {{7, 0, 0, 64}}, PANELRIGHTS_OUT_OF_RANGE},
+    {0, {{1, 32, 1, 0}}, PANELRIGHTS_OUT_OF_RANGE},
+    {0, {{1, 0, 32, 0}}, PANELRIGHTS_OUT_OF_RANGE},
+    {0, {{1, 0, 1, 1}}, PANELRIGHTS_OUT_OF_RANGE},
+    {0, {{3, 0, 0, 32}}, PANELRIGHTS_OUT_OF_RANGE},
+    {0, {{1, 5, 1, 0}}, PANELRIGHTS_ACTIVATOR_UNLISTED},
+    {0, {{7, 0, 6, 0}}, PANELRIGHTS_NOT_LISTED},
+    {2, {{1, 0, 1, 0}, {3, 0, 0, 4}, {7, 4, 1, 9}}, PANELRIGHTS_NOT_OWNER},
+    {0, {{1, 0, 0, 0}}, PANELRIGHTS_ALREADY_THERE},
+    {2, {{1, 0, 1, 0}, {2, 0, 1, 0}, {1, 0, 0, 0}}, PANELRIGHTS_ALREADY_THERE}, /* user 0 stays listed */
+    {1, {{7, 0, 0, 9}, {10, 0, 0, 9}}, PANELRIGHTS_NOT_THERE},
+    {0, {{4, 0, 0, 0}}, PANELRIGHTS_LAST_ONE},
+    {0, {{2, 0, 0, 0}}, PANELRIGHTS_LAST_ONE},
+    {2, {{1, 0, 1, 0}, {7, 0, 1, 9}, {2, 0, 1, 0}}, PANELRIGHTS_AREA_IN_USE},
+    {2, {{1, 0, 1, 0}, {7, 0, 0, 9}, {9, 0, 1, 9}}, PANELRIGHTS_LACKS_ACCESS},
+    /* Areas 1 and 2 lie in each other, and no chain leads to either. */
+    {5,
+     {{1, 0, 1, 0}, {1, 0, 2, 0}, {7, 0, 0, 9}, {5, 0, 1, 2}, {5, 0, 2, 1}, {9, 0, 1, 9}},
+     PANELRIGHTS_LACKS_ACCESS},
+};
+
+static void test_refusals(void)
+{
+    static const uint8_t list_area[4] = {PANELRIGHTS_LIST_AREA, 0, 1, 0};
+    struct guarded site;
+    size_t i, line;
+
+    for (i = 0; i < sizeof examples / sizeof *examples; i++) {
+        found(&site);
+        for (line = 0; line < examples[i].accepted; line++)
+            step(&site, examples[i].lines[line], PANELRIGHTS_OK);
+        step(&site, examples[i].lines[line], examples[i].refusal);
+    }
+    run_session(&site, 8);
+    step(&site, session[8].instruction, PANELRIGHTS_ACCESS_LOST);
+    /* Area 3 listed, no owner. */
+    found(&site);
+    site.state[PANELRIGHTS_AREA(3)] = 1;
+    step(&site, list_area, PANELRIGHTS_UNSOUND_STATE);
+}
+
+static void test_access(void)
+{
+    struct guarded site;
+
+    run_session(&site, 8);
+    CHECK_NUMBER(ask(&site, 32, 9), PANELRIGHTS_ACCESS_REFUSED + PANELRIGHTS_OUT_OF_RANGE);
+    CHECK_NUMBER(ask(&site, 0, 64), PANELRIGHTS_ACCESS_REFUSED + PANELRIGHTS_OUT_OF_RANGE);
+    CHECK_NUMBER(ask(&site, 255, 255), PANELRIGHTS_ACCESS_REFUSED + PANELRIGHTS_OUT_OF_RANGE);
+    CHECK_NUMBER(ask(&site, 3, 9), PANELRIGHTS_ACCESS_REFUSED + PANELRIGHTS_NOT_LISTED);
+    CHECK_NUMBER(ask(&site, 0, 8), PANELRIGHTS_ACCESS_REFUSED + PANELRIGHTS_NOT_LISTED);
+    site.state[PANELRIGHTS_AREA(3)] = 1;
+    CHECK_NUMBER(ask(&site, 32, 9), PANELRIGHTS_ACCESS_REFUSED + PANELRIGHTS_UNSOUND_STATE);
+}
+
+void test_machine(void)
+{
+    test_session();
+    test_refusals();
+    test_access();
+}

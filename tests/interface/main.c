@@ -1,0 +1,26 @@
+#include "tests.h"
+
+#include <stdio.h>
+
+/* The lowest mark by its definition. */
+static void test_marks(void)
+{
+    unsigned marks, place;
+
+    for (marks = 0; marks < 256; marks++) {
+        for (place = 0; place < 8 && !(marks >> place & 1); place++)
+            ;
+        CHECK_NUMBER(panelrights_lowest_mark((uint8_t)marks), place);
+    }
+}
+
+int main(void)
+{
+    test_machine();
+    test_records();
+    test_files();
+    test_marks();
+    test_edges();
+    printf("%lu checks\n", checks());
+    return 0;
+}

@@ -1,0 +1,88 @@
+/* Records of another length, and records with a byte that is neither 0 nor 1. */
+#include "tests.h"
+
+#include <string.h>
+
+/* A founding record with a byte 0 behind it, between guards: of another length it is refused, and nothing is
+ * written. */
+static void refuse_length(size_t length)
+{
+    uint8_t memory[GUARD + PANELRIGHTS_STATE_BYTES + 1 + GUARD];
+    uint8_t given[sizeof memory];
+    uint8_t *state = length == 0 ? NULL : memory + GUARD;
+
+    memset(memory, 0xa5, sizeof memory);
+    CHECK_NUMBER(panelrights_founding(memory + GUARD, PANELRIGHTS_STATE_BYTES), PANELRIGHTS_OK);
+    memory[GUARD + PANELRIGHTS_STATE_BYTES] = 0;
+    memcpy(given, memory, sizeof memory);
+
+    CHECK_NUMBER(panelrights_founding(state, length), PANELRIGHTS_STATE_LENGTH);
+    CHECK_NUMBER(panelrights_step(state, length, PANELRIGHTS_LIST_AREA, 0, 1, 0), PANELRIGHTS_UNSOUND_STATE);
+    CHECK_NUMBER(panelrights_step(state, length, 0, 255, 255, 255), PANELRIGHTS_UNSOUND_STATE);
+    CHECK_NUMBER(panelrights_access(state, length, 0, 0),
+                 PANELRIGHTS_ACCESS_REFUSED + PANELRIGHTS_UNSOUND_STATE);
+    CHECK_NUMBER(panelrights_read_file(good_file, sizeof good_file, state, length), PANELRIGHTS_STATE_LENGTH);
+    CHECK_NUMBER(panelrights_read_file(NULL, 0, state, length), PANELRIGHTS_STATE_LENGTH);
+    CHECK(memcmp(memory, given, sizeof memory) == 0);
+}
+
+/*
+ * Area 30 lies in area 31 and imports object 63, which area 31 defines and exports: the last byte of the
+ * lists and of most relations is 1.
+ */
+static void make_last(struct guarded *site)
+{
+    static const uint8_t lines[][4] = {
+        {1, 0, 30, 0},  {1, 0, 31, 0},  {3, 0, 31, 31}, {5, 0, 30, 31},
+        {5, 0, 31, 31}, {7, 0, 31, 63}, {9, 0, 30, 63}, {11, 0, 31, 63},
+    };
+    size_t i;
+
+    found(site);
+    for (i = 0; i < sizeof lines / sizeof *lines; i++)
+        step(site, lines[i], PANELRIGHTS_OK);
+    CHECK_NUMBER(site->state[PANELRIGHTS_STATE_BYTES - 1], 1);
+}
+
+/* A record with one byte changed is none, whatever is asked of it. */
+static void refuse_byte(const struct guarded *record, size_t place, uint8_t byte)
+{
+    static const uint8_t add_owner[4] = {PANELRIGHTS_ADD_OWNER, 0, 0, 4};
+    struct guarded site = *record;
+
+    site.state[place] = byte;
+    step(&site, add_owner, PANELRIGHTS_UNSOUND_STATE);
+    CHECK_NUMBER(panelrights_access(site.state, sizeof site.state, 0, 0),
+                 PANELRIGHTS_ACCESS_REFUSED + PANELRIGHTS_UNSOUND_STATE);
+}
+
+static void test_founding(void)
+{
+    uint8_t expected[PANELRIGHTS_STATE_BYTES] = {0};
+    struct guarded site;
+    size_t i;
+
+    CHECK_NUMBER(panelrights_state_bytes(), PANELRIGHTS_STATE_BYTES);
+    found(&site);
+    expected[PANELRIGHTS_USER(0)] = expected[PANELRIGHTS_AREA(0)] = expected[PANELRIGHTS_OWNER(0, 0)] = 1;
+    CHECK(memcmp(site.state, expected, sizeof expected) == 0);
+    for (i = 0; i < GUARD; i++)
+        CHECK(site.before[i] == 0xa5 && site.behind[i] == 0xa5);
+}
+
+void test_records(void)
+{
+    struct guarded last;
+    size_t place;
+
+    test_founding();
+    refuse_length(0);
+    refuse_length(1);
+    refuse_length(PANELRIGHTS_STATE_BYTES - 1);
+    refuse_length(PANELRIGHTS_STATE_BYTES + 1);
+    make_last(&last);
+    for (place = 0; place < PANELRIGHTS_STATE_BYTES; place++) {
+        refuse_byte(&last, place, 2);
+        refuse_byte(&last, place, 255);
+    }
+}

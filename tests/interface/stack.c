@@ -1,0 +1,110 @@
+/*
+ * How much stack a call takes, against what the header says. Each function is called in a thread whose stack
+ * was filled beforehand, and what is left of the filling is counted.
+ */
+#define _DEFAULT_SOURCE
+#include "tests.h"
+
+#include <pthread.h>
+#include <stdio.h>
+#include <string.h>
+
+enum { STACK = 1 << 20, FILLING = 0x5a, STATED = 64 * 1024 };
+
+static uint8_t stack[STACK] __attribute__((aligned(4096)));
+static uint8_t state[PANELRIGHTS_STATE_BYTES];
+static int right = 1;
+
+static void call_founding(void)
+{
+    right &= panelrights_founding(state, sizeof state) == PANELRIGHTS_OK;
+}
+
+/* Instructions of all twelve codes, and refused ones, each with its answer. */
+static void call_step(void)
+{
+    static const uint8_t lines[][5] = {
+        {1, 0, 1, 0, 0},  {1, 0, 2, 0, 0},  {5, 0, 1, 2, 0},  {5, 0, 0, 2, 0},   {7, 0, 1, 9, 0},
+        {9, 0, 0, 9, 10}, {11, 0, 1, 9, 0}, {9, 0, 0, 9, 0},  {12, 0, 1, 9, 11}, {6, 0, 1, 2, 11},
+        {8, 0, 1, 9, 11}, {2, 0, 1, 0, 9},  {3, 0, 0, 4, 0},  {10, 4, 0, 9, 0},  {6, 4, 0, 2, 0},
+        {12, 0, 1, 9, 0}, {8, 0, 1, 9, 0},  {6, 0, 1, 2, 0},  {2, 0, 1, 0, 0},   {4, 4, 0, 4, 0},
+        {4, 0, 0, 0, 8},  {13, 0, 0, 0, 1}, {3, 0, 0, 32, 2},
+    };
+    size_t i;
+
+    for (i = 0; i < sizeof lines / sizeof *lines; i++) {
+        const uint8_t *line = lines[i];
+
+        right &= panelrights_step(state, sizeof state, line[0], line[1], line[2], line[3]) == line[4];
+    }
+    right &= panelrights_step(state, sizeof state - 1, 1, 0, 1, 0) == PANELRIGHTS_UNSOUND_STATE;
+}
+
+static void call_read_file(void)
+{
+    right &= panelrights_read_file(good_file, 107, state, sizeof state) == PANELRIGHTS_FILE_LENGTH;
+    right &= panelrights_read_file(good_file, sizeof good_file, state, sizeof state) == PANELRIGHTS_OK;
+}
+
+static void call_access(void)
+{
+    right &= panelrights_access(state, sizeof state, 0, 9) == 2;
+}
+
+static void call_label(void)
+{
+    right &= panelrights_label(good_file, sizeof good_file, 1) == 46 * 65536 + 6;
+}
+
+struct call {
+    const char *name;
+    void (*work)(void);
+    const uint8_t *top; /* of the stack, where the call begins */
+};
+
+static void *run(void *argument)
+{
+    struct call *call = argument;
+    uint8_t here = FILLING;
+
+    call->top = &here;
+    call->work();
+    return NULL;
+}
+
+/* The bytes between where the call began and the last of the filling. */
+static size_t measure(struct call *call)
+{
+    pthread_attr_t attributes;
+    pthread_t thread;
+    const uint8_t *low = stack;
+
+    memset(stack, FILLING, sizeof stack);
+    CHECK(pthread_attr_init(&attributes) == 0);
+    CHECK(pthread_attr_setstack(&attributes, stack, sizeof stack) == 0);
+    CHECK(pthread_create(&thread, &attributes, run, call) == 0);
+    CHECK(pthread_join(thread, NULL) == 0);
+    CHECK(pthread_attr_destroy(&attributes) == 0);
+    while (low < call->top && *low == FILLING)
+        low++;
+    return (size_t)(call->top - low);
+}
+
+int main(void)
+{
+    struct call calls[] = {
+        {"founding", call_founding, NULL}, {"step", call_step, NULL},   {"read_file", call_read_file, NULL},
+        {"access", call_access, NULL},     {"label", call_label, NULL},
+    };
+    size_t i;
+
+    for (i = 0; i < sizeof calls / sizeof *calls; i++) {
+        size_t bytes = measure(&calls[i]);
+
+        printf("%s%s %lu", i == 0 ? "bytes of stack: " : ", ", calls[i].name, (unsigned long)bytes);
+        CHECK(right);
+        CHECK(bytes < STATED);
+    }
+    printf("\n");
+    return 0;
+}
