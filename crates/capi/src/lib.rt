@@ -4,7 +4,7 @@ ghost use Rattle.records.specs.Record.{recordSize, numberFor};
 ghost use Rattle.instructions.specs.Instructions.{fourBytes};
 ghost use Rattle.marks.specs.Marks.{lowest};
 ghost use Rattle.access.specs.Answer.{number};
-ghost use Rattle.capi.specs.Interface.{foundingBuffer, stepNumber, stepBuffer, replyCode, accessNumber, fileNumber, fileBuffer, labelNumber};
+ghost use Rattle.capi.specs.Interface.{foundingBuffer, stepNumber, stepBuffer, answerOf, accessNumber, fileNumber, fileBuffer, labelNumber};
 use access::Answer;
 use machine::Reply;
 use state::State;
@@ -51,9 +51,9 @@ fn number_of(answer: Answer) -> u16
     }
 }
 
-// The number that stands for a reply: that of the answer, or 256 and the refusal.
-fn code_of(reply: Reply) -> u16
-    ensures { λ r. ⌜ r ≡ replyCode reply ⌝ }
+// The number that stands for a reply: that of the answer, or 256 + n for refusal n.
+fn answer_of(reply: Reply) -> u16
+    ensures { λ r. ⌜ r ≡ answerOf reply ⌝ }
 {
     match reply {
         Reply::Answered(answer) => number_of(answer),
@@ -66,7 +66,7 @@ fn code_of(reply: Reply) -> u16
 pub extern "C" fn panelrights_access(state: &[u8], area: u8, object: u8) -> u16
     ensures { λ r. ⌜ r ≡ accessNumber (now (state .entry)) area object ⌝ }
 {
-    code_of(machine::ask(records::state_of(state), area, object))
+    answer_of(machine::ask(records::state_of(state), area, object))
 }
 
 // Reads a site file: 0 and its state, or 21 to 29 and the founding state; 31 and no byte written, if the state's buffer has another length than a record.

@@ -1,13 +1,18 @@
--- What is claimed of the numbers that a step gives, of an unsound state and of a refusal, and of a list of instructions. Each claim is a type, which proofs/Laws.antt inhabits under the claim's name.
-use Prim.Native.Nat.{ℕ, _<_}
+-- What is claimed of the numbers that a step gives, of an unsound state, of the access question and of a refusal, and of a list of instructions. Each claim is a type, which proofs/Laws.antt inhabits under the claim's name.
+use Prim.Native.Nat.{ℕ, _≤_, _<_}
 use mathlib.Core.Path.{_≡_}
 use mathlib.Core.Bool.{false}
 use mathlib.Core.List.{List, [], _∷_}
 use Rattle.state.specs.declared.State.{State}
+use Rattle.state.specs.Checks.{firstMet}
 use Rattle.soundness.specs.Tests.{isSound}
 use Rattle.instructions.specs.Instructions.{Bytes}
-use Rattle.machine.specs.Step.{stepOf, run, replyOf}
+use Rattle.machine.specs.Step.{stepOf, run, questionRefusals, replied, replyOf}
 use Rattle.machine.specs.declared.Reply.the-variants.{Refused}
+
+-- 0, or a number of the table of refusals
+abbrev pub StepNumbers : Type 0
+StepNumbers = (s : State) (bytes : Bytes) → stepOf s bytes .refusal ≤ 12
 
 -- "13 belongs to the program alone"
 abbrev pub NeverThirteen : Type 0
@@ -23,6 +28,10 @@ UnsoundRefused = (s : State) (bytes : Bytes) → isSound s ≡ false → stepOf 
 
 abbrev pub UnsoundUnanswered : Type 0
 UnsoundUnanswered = (s : State) (a b : ℕ) → isSound s ≡ false → replyOf s a b ≡ Refused 12
+
+-- the reply is decided by the first refusal that is met
+abbrev pub ReplyByFirst : Type 0
+ReplyByFirst = (s : State) (a b : ℕ) → replyOf s a b ≡ replied s a b (firstMet (questionRefusals s a b))
 
 -- "The state after a refusal is the state given."
 abbrev pub RefusedUnchanged : Type 0

@@ -3,38 +3,37 @@
 use Prim.Native.Nat.{ℕ, zero, suc, _+_, _*_, _≤_, _<_}
 use mathlib.Core.Path.{_≡_, refl, sym, ap, ap₂, _∙_}
 use mathlib.Core.Logic.{_⊎_, inl, inr}
-use mathlib.Core.Bool.{Bool, true, false, _&&_, cond}
+use mathlib.Core.Bool.{Bool, true, false, cond}
 use mathlib.Core.List.{List, _++_}
 use native.Mathlib.Omega.{arith}
 use borrow.Author.Tests.{eq-eqb}
 use lib.Dec.{T, eqb, ltb, ltb→lt}
 use lib.ListN.{length, getD, take, drop, length-drop, List·getD-map}
 use lib.Seq.{ext-getD, getD-take, getD-drop, take-add, take-all, length-take-le}
-use Rattle.state.specs.Cells.{width, member, pair}
+use Rattle.state.specs.Cells.{width}
 use Rattle.state.specs.Below.{eachBelow}
-use Rattle.state.specs.Tabulate.{tabulate}
-use Rattle.state.specs.Site.{Kind, user, area, object, limit, Relation, owner, definition, structure, import, export, firstKind, members, cells, Shaped, empty}
+use Rattle.state.specs.Site.{Kind, user, area, object, limit, Relation, owner, definition, structure, import, export, firstKind, members, cells, Shaped}
 use Rattle.state.specs.declared.State.{State}
 use Rattle.state.proofs.Bools.{and-both, is-true, holds, test}
 use Rattle.state.proofs.Below.{each-by}
 use Rattle.state.proofs.Tabulate.{length-tabulate, getD-tabulate, tabulate-is}
 use Rattle.state.proofs.Laws.{member-cell, pair-cell, empty-shaped}
-use Rattle.records.specs.Record.{listStart, pairStart, recordSize, bit, bits, places, bytesOf, isBit, isRecord, isSet, cellsAt, listAt, pairsAt, stateAt, stateOf, isSized, stored}
+use Rattle.records.specs.Record.{listStart, pairStart, recordSize, bit, bits, bytesOf, isBit, isRecord, isSet, cellsAt, listAt, pairsAt, stateAt, stateOf, stored}
 use Rattle.records.specs.Claims
 use Rattle.records.proofs.Lay.{bits-append, bits-length}
 use Rattle.records.proofs.Known
 use Rattle.records.proofs.Places
-use Rattle.records.proofs.Places.{Held, list-held, pairs-held, byte-at, byte-of}
+use Rattle.records.proofs.Places.{places, Held, list-held, pairs-held, by-cells, byte-at, byte-of}
 
 -- ---- which byte is which
 pub listed-byte : Claims.ListedByte
 listed-byte s h k i q =
-    byte-of s recordSize (listStart k) (members s k) (list-held s h k) i (rw (h .sets k) q) ∙ ap bit (sym (member-cell (members s k) i))
+    byte-of s h (listStart k) (members s k) (list-held s h k) i (rw (h .sets k) q) ∙ ap bit (sym (member-cell (members s k) i))
 
 pub pair-byte : Claims.PairByte
 pair-byte s h r i j q p =
     let inside : i * width + j < length (cells s r) = rw (h .relations r) (omega arith) in
-    byte-of s recordSize (pairStart r) (cells s r) (pairs-held s h r) (i * width + j) inside ∙ ap bit (sym (pair-cell (cells s r) i j p))
+    byte-of s h (pairStart r) (cells s r) (pairs-held s h r) (i * width + j) inside ∙ ap bit (sym (pair-cell (cells s r) i j p))
 
 -- ---- a state's bytes are a record
 bit-small : (v : Bool) → T (ltb (bit v) 2)
@@ -48,8 +47,8 @@ pub bytes-are-record : Claims.BytesAreRecord
 unfolding isRecord
 bytes-are-record s h =
     and-both (eqb (length (bytesOf s)) recordSize) (eachBelow (length (bytesOf s)) (isBit (bytesOf s)))
-    (holds (eq-eqb (length (bytesOf s)) recordSize (bytes-length s h)))
-    (each-by (isBit (bytesOf s)) (length (bytesOf s)) (λ k q. rw (byte-at s k) (bit-small (getD (places s) k false))))
+    (holds (eq-eqb (length (bytesOf s)) recordSize (bytes-length s)))
+    (each-by (isBit (bytesOf s)) (length (bytesOf s)) (λ k q. rw (byte-at s h k) (bit-small (getD (places s) k false))))
 
 -- ---- and their own
 bit-back : (v : Bool) → eqb (bit v) 1 ≡ v
@@ -57,10 +56,10 @@ bit-back true = refl
 bit-back false = refl
 
 -- the cells that are read from a state's record are those that stand there
-read-back : (s : State) (start : ℕ) (part : List Bool) (n : ℕ) → length part ≡ n → Held (places s) recordSize start part → cellsAt (bytesOf s) start n ≡ part
-read-back s start part n h t =
+read-back : (s : State) → Shaped s → (start : ℕ) (part : List Bool) (n : ℕ) → length part ≡ n → Held (places s) recordSize start part → cellsAt (bytesOf s) start n ≡ part
+read-back s sh start part n h t =
     sym (tabulate-is (isSet (bytesOf s) start) n false part h
-    (λ k q. sym (bit-back (getD part k false)) ∙ ap (λ (v : ℕ). eqb v 1) (sym (byte-of s recordSize start part t k (rw h q)))))
+    (λ k q. sym (bit-back (getD part k false)) ∙ ap (λ (v : ℕ). eqb v 1) (sym (byte-of s sh start part t k (rw h q)))))
 
 by-fields : (s t : State) → ((k : Kind) → members s k ≡ members t k) → ((r : Relation) → cells s r ≡ cells t r) → s ≡ t
 by-fields s t m c i =
@@ -91,8 +90,8 @@ pub state-of-bytes : Claims.StateOfBytes
 state-of-bytes s h =
     Known.record-state (bytesOf s) (is-true (isRecord (bytesOf s)) (bytes-are-record s h))
     ∙ by-fields (stateAt (bytesOf s)) s
-    (λ k. lists-at (bytesOf s) k ∙ read-back s (listStart k) (members s k) (limit k) (h .sets k) (list-held s h k))
-    (λ r. pairs-at (bytesOf s) r ∙ read-back s (pairStart r) (cells s r) (limit (firstKind r) * width) (h .relations r) (pairs-held s h r))
+    (λ k. lists-at (bytesOf s) k ∙ read-back s h (listStart k) (members s k) (limit k) (h .sets k) (list-held s h k))
+    (λ r. pairs-at (bytesOf s) r ∙ read-back s h (pairStart r) (cells s r) (limit (firstKind r) * width) (h .relations r) (pairs-held s h r))
 
 -- ---- a record is that of its state
 small-bit : (n : ℕ) → n < 2 → bit (eqb n 1) ≡ n
@@ -140,19 +139,19 @@ module _ (bytes : List ℕ) (t : T (isRecord bytes)) where
       let imports = grown 4224 2048 _ (omega arith) structures in
       grown 6272 2048 _ (omega arith) imports
 
-pub bytes-of-state : Claims.BytesOfState
-unfolding bytesOf
-bytes-of-state bytes t =
-    ap bytesOf (Known.record-state bytes (is-true (isRecord bytes) t))
-    ∙ all-read bytes t .read
-    ∙ take-all recordSize bytes (rw (Known.record-length bytes t) (omega arith))
-
 at-shaped : (bytes : List ℕ) → Shaped (stateAt bytes)
 at-shaped bytes =
     record {
       sets = λ k. ap length (lists-at bytes k) ∙ length-tabulate (isSet bytes (listStart k)) (limit k);
       relations = λ r. ap length (pairs-at bytes r) ∙ length-tabulate (isSet bytes (pairStart r)) (limit (firstKind r) * width);
     }
+
+pub bytes-of-state : Claims.BytesOfState
+bytes-of-state bytes t =
+    ap bytesOf (Known.record-state bytes (is-true (isRecord bytes) t))
+    ∙ by-cells (stateAt bytes) (at-shaped bytes)
+    ∙ all-read bytes t .read
+    ∙ take-all recordSize bytes (rw (Known.record-length bytes t) (omega arith))
 
 pub state-shaped : Claims.StateShaped
 state-shaped bytes = go (test (isRecord bytes))

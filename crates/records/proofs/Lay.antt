@@ -47,13 +47,13 @@ module _ (b : List ℕ) (at : ℕ) (c : List Bool) where
   laid-more i l h t =
       let front : length (bits (take i c)) ≡ i = bits-length (take i c) ∙ length-take-le i c (omega arith) in
       let cells : bits (take (i + 1) c) ≡ bits (take i c) ++ (bit (getD c i false) ∷ []) =
-        ap bits (ap (λ (k : ℕ). take k c) (add-one i) ∙ take-suc c i false h) ∙ bits-append (take i c) (getD c i false ∷ []) in
+      ap bits (ap (λ (k : ℕ). take k c) (add-one i) ∙ take-suc c i false h) ∙ bits-append (take i c) (getD c i false ∷ []) in
       record {
         bytes =
-          ap (λ (m : List ℕ). set m (at + i) (boolByte (getD c i false))) (t .bytes)
-          ∙ ap₂ (λ (k v : ℕ). set (sets b at (bits (take i c))) (at + k) v) (sym front) (byte-is-bit (getD c i false))
-          ∙ sym (sets-append b at (bits (take i c)) (bit (getD c i false) ∷ []))
-          ∙ ap (sets b at) (sym cells);
+            ap (λ (m : List ℕ). set m (at + i) (boolByte (getD c i false))) (t .bytes)
+            ∙ ap₂ (λ (k v : ℕ). set (sets b at (bits (take i c))) (at + k) v) (sym front) (byte-is-bit (getD c i false))
+            ∙ sym (sets-append b at (bits (take i c)) (bit (getD c i false) ∷ []))
+            ∙ ap (sets b at) (sym cells);
       }
 
   pub laid-as-long : (i : ℕ) (l : List ℕ) → Laid b at c i l → length l ≡ length b
@@ -77,10 +77,10 @@ module _ (b : List ℕ) where
       record {
         long = length-append c d ∙ ap₂ _+_ (t .long) h;
         bytes =
-          e
-          ∙ ap₂ (λ (k : List ℕ) (i : ℕ). sets k i (bits d)) (t .bytes) (sym (t .long) ∙ sym (bits-length c) ∙ sym (zero-add (length (bits c))))
-          ∙ sym (sets-append b 0 (bits c) (bits d))
-          ∙ ap (sets b 0) (sym (bits-append c d));
+            e
+            ∙ ap₂ (λ (k : List ℕ) (i : ℕ). sets k i (bits d)) (t .bytes) (sym (t .long) ∙ sym (bits-length c) ∙ sym (zero-add (length (bits c))))
+            ∙ sym (sets-append b 0 (bits c) (bits d))
+            ∙ ap (sets b 0) (sym (bits-append c d));
       }
 
   pub front-length : (n : ℕ) (c : List Bool) (l : List ℕ) → Front b n c l → length l ≡ length b

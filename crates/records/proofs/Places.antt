@@ -1,19 +1,28 @@
 -- Where each set and each relation stands among the places of a state, and the bytes that are there.
 --     list-held, pairs-held     the cells of a set, and of a relation, from its start on
---     byte-at, byte-of          the byte of a place, and of a cell
 --     bytes-length              how many bytes there are
+--     by-cells                  the bytes are those of the cells
+--     byte-at, byte-of          the byte of a place, and of a cell
 -- Assumes nothing.
-use Prim.Native.Nat.{ℕ, _+_, _≤_, _<_}
-use mathlib.Core.Path.{_≡_, refl, sym, ap, ap₂, _∙_}
+use Prim.Native.Nat.{ℕ, _+_, _*_, _≤_, _<_, _/_, _%_}
+use mathlib.Core.Path.{_≡_, sym, ap, ap₂, _∙_}
 use mathlib.Core.Bool.{Bool, false}
 use mathlib.Core.List.{List, _++_}
 use native.Mathlib.Omega.{arith}
 use lib.ListN.{length, getD, length-append, List·getD-append, List·getD-map}
 use lib.Seq.{getD-append-add}
-use Rattle.state.specs.Site.{Kind, user, area, object, Relation, owner, definition, structure, import, export, members, cells, Shaped}
+use Rattle.state.specs.Tabulate.{tabulate}
+use Rattle.state.specs.Cells.{width, member, pair}
+use Rattle.state.specs.Site.{Kind, user, area, object, Relation, owner, definition, structure, import, export, limit, firstKind, listed, related, members, cells, Shaped}
 use Rattle.state.specs.declared.State.{State}
-use Rattle.records.specs.Record.{listStart, pairStart, recordSize, bit, places, bytesOf}
-use Rattle.records.proofs.Lay.{bits-length}
+use Rattle.records.specs.Record.{listStart, pairStart, recordSize, bit, bits, listBytes, pairBytes, bytesOf}
+use Rattle.state.proofs.Tabulate.{length-tabulate, tabulate-is}
+use Rattle.state.proofs.Laws.{member-cell, pair-cell}
+use Rattle.records.proofs.Lay.{bits-append, bits-length}
+
+-- the cells of a state, those of one set or relation behind those of another
+abbrev pub places : State → List Bool
+places s = s .users ++ s .areas ++ s .objects ++ s .owners ++ s .definitions ++ s .structure ++ s .imports ++ s .exports
 
 -- `part` stands in the n cells l, from `start` on
 pub record Held (l : List Bool) (n start : ℕ) (part : List Bool) : Type 0 where
@@ -39,6 +48,39 @@ held-more l part more m n start h t =
       inside = let within = t .inside in omega arith;
       cell = λ i q. List·getD-append l more false (start + i) (omega (arith, t .long, t .inside)) ∙ t .cell i q;
     }
+
+-- ---- the bytes of cells
+list-bits : (c : List Bool) (n : ℕ) → length c ≡ n → tabulate n (λ i. bit (member c i)) ≡ bits c
+list-bits c n h =
+    sym (tabulate-is (λ i. bit (member c i)) n 0 (bits c) (bits-length c ∙ h)
+    (λ k q. List·getD-map bit c k false ∙ ap bit (sym (member-cell c k))))
+
+pair-bits : (c : List Bool) (n : ℕ) → length c ≡ n → tabulate n (λ p. bit (pair c (p / width) (p % width))) ≡ bits c
+pair-bits c n h =
+    sym (tabulate-is (λ p. bit (pair c (p / width) (p % width))) n 0 (bits c) (bits-length c ∙ h)
+    (λ k q. List·getD-map bit c k false ∙ ap bit (ap (λ (p : ℕ). getD c p false) (omega arith) ∙ sym (pair-cell c (k / width) (k % width) (omega arith)))))
+
+joined : (c d : List Bool) {x y : List ℕ} → x ≡ bits c → y ≡ bits d → x ++ y ≡ bits (c ++ d)
+joined c d e f = ap₂ _++_ e f ∙ sym (bits-append c d)
+
+-- ---- how many bytes there are
+record Long (x : List ℕ) (n : ℕ) : Type 0 where
+  pub long : length x ≡ n
+
+and-list : (s : State) (k : Kind) {x : List ℕ} (m : ℕ) → Long x m → Long (x ++ listBytes s k) (m + limit k)
+and-list s k {x} m t = record { long = length-append x (listBytes s k) ∙ ap₂ _+_ (t .long) (length-tabulate (λ i. bit (listed s k i)) (limit k)) }
+
+and-pairs : (s : State) (r : Relation) {x : List ℕ} (m : ℕ) → Long x m → Long (x ++ pairBytes s r) (m + limit (firstKind r) * width)
+and-pairs s r {x} m t =
+    record { long = length-append x (pairBytes s r) ∙ ap₂ _+_ (t .long) (length-tabulate (λ p. bit (related s r (p / width) (p % width))) (limit (firstKind r) * width)) }
+
+pub bytes-length : (s : State) → length (bytesOf s) ≡ recordSize
+unfolding bytesOf
+bytes-length s =
+    let users : Long (listBytes s user) 32 = record { long = length-tabulate (λ i. bit (listed s user i)) 32 } in
+    let objects = and-list s object 64 (and-list s area 32 users) in
+    let structures = and-pairs s structure 3200 (and-pairs s definition 1152 (and-pairs s owner 128 objects)) in
+    and-pairs s export 6272 (and-pairs s import 4224 structures) .long
 
 module _ (s : State) (h : Shaped s) where
   -- the first two sets and relations, the first three, and so on
@@ -117,15 +159,24 @@ module _ (s : State) (h : Shaped s) where
   pairs-held import = from7 4224 (s .imports) held7
   pairs-held export = held8
 
-  pub bytes-length : length (bytesOf s) ≡ recordSize
+  -- a record's bytes are those of the cells
+  pub by-cells : bytesOf s ≡ bits (places s)
   unfolding bytesOf
-  bytes-length = bits-length (places s) ∙ held8 .long
+  by-cells =
+      joined l7 (s .exports)
+      (joined l6 (s .imports)
+      (joined l5 (s .structure)
+      (joined l4 (s .definitions)
+      (joined l3 (s .owners) (joined l2 (s .objects) (joined (s .users) (s .areas) (list-bits (s .users) 32 (h .sets user)) (list-bits (s .areas) 32 (h .sets area))) (list-bits (s .objects) 64 (h .sets object)))
+      (pair-bits (s .owners) 1024 (h .relations owner)))
+      (pair-bits (s .definitions) 2048 (h .relations definition)))
+      (pair-bits (s .structure) 1024 (h .relations structure)))
+      (pair-bits (s .imports) 2048 (h .relations import)))
+      (pair-bits (s .exports) 2048 (h .relations export))
 
--- byte k of a state's record is that of place k
-pub byte-at : (s : State) (k : ℕ) → getD (bytesOf s) k 0 ≡ bit (getD (places s) k false)
-unfolding bytesOf
-byte-at s k = List·getD-map bit (places s) k false
+  -- the byte of a place, and of a cell
+  pub byte-at : (k : ℕ) → getD (bytesOf s) k 0 ≡ bit (getD (places s) k false)
+  byte-at k = ap (λ (l : List ℕ). getD l k 0) by-cells ∙ List·getD-map bit (places s) k false
 
--- the byte of a cell
-pub byte-of : (s : State) (n start : ℕ) (part : List Bool) → Held (places s) n start part → (i : ℕ) → i < length part → getD (bytesOf s) (start + i) 0 ≡ bit (getD part i false)
-byte-of s n start part t i q = byte-at s (start + i) ∙ ap bit (t .cell i q)
+  pub byte-of : (start : ℕ) (part : List Bool) → Held (places s) recordSize start part → (i : ℕ) → i < length part → getD (bytesOf s) (start + i) 0 ≡ bit (getD part i false)
+  byte-of start part t i q = byte-at (start + i) ∙ ap bit (t .cell i q)

@@ -25,7 +25,7 @@ abbrev pub BytesAreRecord : Type 0
 BytesAreRecord = (s : State) → Shaped s → T (isRecord (bytesOf s))
 
 abbrev pub BytesLength : Type 0
-BytesLength = (s : State) → Shaped s → length (bytesOf s) ≡ recordSize
+BytesLength = (s : State) → length (bytesOf s) ≡ recordSize
 
 -- its own
 abbrev pub StateOfBytes : Type 0

@@ -1,9 +1,10 @@
--- The record of a state as bytes, as programs in other languages keep it: one byte a place, 1 where a number is listed or a pair is there, and 0 where not.
+-- The record of a state as bytes, as programs in other languages keep it: "one a place, 0 or 1", 1 where a number is listed or a pair is there. Here and above, a record is
+-- these bytes; `recordOf` (state) makes the struct of the code.
 --     listStart, pairStart, recordSize     where each set and each relation begins, and how many bytes there are
---     places, bytesOf                      the places of a state, and the bytes of its record
---     isRecord, stateOf                    whether bytes are a record, and of which state
---     laid, isSized, numberFor, stored     a state written into a buffer
-use Prim.Native.Nat.{ℕ, _+_, _*_}
+--     bytesOf                              the bytes of a state's record
+--     isSized, isRecord, stateOf           whether bytes are a record, and of which state
+--     numberFor, stored                    a state written into a buffer
+use Prim.Native.Nat.{ℕ, _+_, _*_, _/_, _%_}
 use mathlib.Core.Bool.{Bool, _&&_, cond}
 use mathlib.Core.List.{List, _++_, map}
 use lib.Dec.{eqb, ltb}
@@ -12,7 +13,7 @@ use lib.Seq.{sets}
 use Rattle.state.specs.Below.{eachBelow}
 use Rattle.state.specs.Tabulate.{tabulate}
 use Rattle.state.specs.Cells.{width}
-use Rattle.state.specs.Site.{Kind, user, area, object, limit, Relation, owner, definition, structure, import, export, firstKind, recordOf, empty}
+use Rattle.state.specs.Site.{Kind, user, area, object, limit, listed, Relation, owner, definition, structure, import, export, firstKind, related, recordOf, empty}
 use Rattle.state.specs.declared.State.{State}
 
 -- users 32, areas 32, objects 64: where the byte of number 0 stands
@@ -37,25 +38,33 @@ recordSize = 8320
 abbrev pub bit : Bool → ℕ
 bit v = cond v 1 0
 
-abbrev pub bits : List Bool → List ℕ
-bits cells = map bit cells
+-- one byte for each number that may be listed
+abbrev pub listBytes : State → Kind → List ℕ
+listBytes s k = tabulate (limit k) (λ i. bit (listed s k i))
 
--- the places in their order: users, areas, objects, owners, definitions, structure, imports, exports
-abbrev pub places : State → List Bool
-places s = s .users ++ s .areas ++ s .objects ++ s .owners ++ s .definitions ++ s .structure ++ s .imports ++ s .exports
+-- one byte for each pair that may be there: byte p is that of (p / 32, p % 32), so the byte of (i, j) is byte i * 32 + j
+abbrev pub pairBytes : State → Relation → List ℕ
+pairBytes s r = tabulate (limit (firstKind r) * width) (λ p. bit (related s r (p / width) (p % width)))
 
--- one byte a place
+-- "in this order: users 32, areas 32, objects 64, owners 1,024 (user * 32 + area), definitions 2,048 (object * 32 + area), structure 1,024 (inner * 32 + outer), imports
+-- 2,048, exports 2,048 (object * 32 + area)"
 unfoldable pub bytesOf : State → List ℕ
-bytesOf s = bits (places s)
+bytesOf s =
+    listBytes s user ++ listBytes s area ++ listBytes s object
+    ++ pairBytes s owner ++ pairBytes s definition ++ pairBytes s structure ++ pairBytes s import ++ pairBytes s export
 
 -- ---- the state of a record
+-- as many bytes as a record has
+abbrev pub isSized : (bytes : List ℕ) → Bool
+isSized bytes = eqb (length bytes) recordSize
+
 -- byte k is 0 or 1
 abbrev pub isBit : (bytes : List ℕ) → ℕ → Bool
 isBit bytes k = ltb (getD bytes k 0) 2
 
 -- as many bytes as a record has, each 0 or 1
 unfoldable pub isRecord : (bytes : List ℕ) → Bool
-isRecord bytes = eqb (length bytes) recordSize && eachBelow (length bytes) (isBit bytes)
+isRecord bytes = isSized bytes && eachBelow (length bytes) (isBit bytes)
 
 -- place i behind `at` holds something: its byte is 1
 abbrev pub isSet : (bytes : List ℕ) (at i : ℕ) → Bool
@@ -81,18 +90,18 @@ unfoldable pub stateOf : (bytes : List ℕ) → State
 stateOf bytes = cond (isRecord bytes) (stateAt bytes) empty
 
 -- ---- a state written into a buffer
--- the buffer, with the cells written over it as bytes from `at` on
-unfoldable pub laid : (buffer : List ℕ) (at : ℕ) → List Bool → List ℕ
-laid buffer at cells = sets buffer at (bits cells)
-
--- the buffer has the length of a record
-abbrev pub isSized : (buffer : List ℕ) → Bool
-isSized buffer = eqb (length buffer) recordSize
-
--- 0; or 31, document 02's number for a buffer that does not do
+-- 0; or 31, which document 02 gives a buffer that is too short; here one of any other length
 abbrev pub numberFor : (buffer : List ℕ) → ℕ
 numberFor buffer = cond (isSized buffer) 0 31
 
 -- the record of the state; no byte changed in a buffer of another length
 unfoldable pub stored : (buffer : List ℕ) → State → List ℕ
 stored buffer s = cond (isSized buffer) (bytesOf s) buffer
+
+-- ---- what this crate's own functions promise each other
+-- cells as bytes, and a buffer with cells written over it as bytes, from `at` on
+abbrev pub bits : List Bool → List ℕ
+bits cells = map bit cells
+
+unfoldable pub laid : (buffer : List ℕ) (at : ℕ) → List Bool → List ℕ
+laid buffer at cells = sets buffer at (bits cells)

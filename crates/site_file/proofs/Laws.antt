@@ -14,12 +14,13 @@ use lib.Seq.{getD-take, getD-drop, ext-getD}
 use Rattle.state.specs.Site.{founding}
 use Rattle.state.specs.declared.State.{State}
 use Rattle.state.proofs.Bools.{fails, test}
+use Rattle.state.proofs.Checks.{first-meets}
 use Rattle.soundness.specs.Sound.{Sound}
 use Rattle.soundness.proofs.Laws.{founding-sound}
 use Rattle.label_tables.specs.Labels.{labelCount, labelArea, labelLength, labelIndex}
 use Rattle.label_tables.proofs.Laws.{label-found, label-there, label-area-fits, label-length-fits}
 use Rattle.site_format.specs.Format.{labels, offsetIn, sizeIn, part}
-use Rattle.site_file.specs.Reading.{stateIn, refusalOf, readOf}
+use Rattle.site_file.specs.Reading.{stateIn, checks, refusalOf, readOf}
 use Rattle.site_file.specs.Encode.{AreBytes, encode}
 use Rattle.site_file.specs.Finder.{hasLabel, textAt, textLength, labelText}
 use Rattle.site_file.specs.Claims
@@ -33,6 +34,14 @@ use Rattle.site_file.proofs.Texts.{entry, found, front, no-refusal, an-
 pub refused-founding : Claims.RefusedFounding
 unfolding readOf
 refused-founding file ne = ap (λ (b : Bool). cond b (stateIn file) founding) (ne-eqb (refusalOf file) 0 ne)
+
+pub read-numbers : Claims.ReadNumbers
+unfolding refusalOf
+read-numbers file = first-meets Claims.isReadNumber (checks file) tt tt
+
+pub read-number : Claims.ReadNumber
+unfolding readOf
+read-number file = refl
 
 pub read-sound : Claims.ReadSound
 read-sound file = go (ℕ-discrete (refusalOf file) 0)
@@ -83,7 +92,7 @@ encode-accepted s l h law = acceptance (encode s l) s l (record { sound = h; law
 at-front : (file : List ℕ) (a : ℕ) → (T (hasLabel file a) → ⊥) → AtFront file a
 at-front file a f =
     let place = front file a f in
-    record { starts = place .0; text = ap (λ (n : ℕ). take n (drop (textAt file a) file)) (place .1) }
+    record { starts = place .0; long = place .1; text = ap (λ (n : ℕ). take n (drop (textAt file a) file)) (place .1) }
 
 pub no-label-refused : Claims.NoLabelRefused
 no-label-refused file a ne = at-front file a (λ t. ne (no-refusal file a t))
@@ -99,6 +108,12 @@ no-label-above file a h = at-front file a above
         let area : labelArea (part file labels) (entry file a) < 32 = label-area-fits (part file labels) (entry file a) (checked file (no-refusal file a t) .in-range labels) (an-entry file a t) in
         let same : labelArea (part file labels) (entry file a) ≡ a = label-there (part file labels) a (an-entry file a t) in
         omega arith
+
+pub label-behind-front : Claims.LabelBehindFront
+label-behind-front file a t = rw (found file a t .0) (omega arith)
+
+pub no-label-at-front : Claims.NoLabelAtFront
+no-label-at-front file a e = at-front file a (fails e)
 
 -- entry k of the table lies in the file, and its text within the entry
 module _ (file : List ℕ) (e : refusalOf file ≡ 0) (k : ℕ) (h : k < labelCount (part file labels)) where

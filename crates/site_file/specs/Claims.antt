@@ -2,7 +2,9 @@
 use Prim.Native.Nat.{ℕ, _+_, _*_, _≤_, _<_}
 use mathlib.Core.Path.{_≡_}
 use mathlib.Core.Logic.{_↔_}
+use mathlib.Core.Bool.{Bool, false, _&&_, _||_}
 use mathlib.Core.List.{List, []}
+use lib.Dec.{T, eqb, ltb}
 use lib.ListN.{length, take, drop}
 use Rattle.state.specs.Site.{founding}
 use Rattle.state.specs.declared.State.{State}
@@ -11,7 +13,7 @@ use Rattle.label_tables.specs.Labels.{labelSize, labelCount, labelArea, labelLe
 use Rattle.site_format.specs.Format.{labels, offsetIn, part}
 use Rattle.site_file.specs.Reading.{refusalOf, readOf}
 use Rattle.site_file.specs.Encode.{AreBytes, Lawful, encode}
-use Rattle.site_file.specs.Finder.{textAt, textLength, labelText}
+use Rattle.site_file.specs.Finder.{hasLabel, textAt, textLength, labelText}
 
 -- "A site file of any bytes gets a sound state or a refusal number" (demand 1), and the state beside the number is sound as well
 abbrev pub ReadSound : Type 0
@@ -20,6 +22,16 @@ ReadSound = (file : List ℕ) → Sound (readOf file .state)
 -- "the state beside a refusal is F"
 abbrev pub RefusedFounding : Type 0
 RefusedFounding = (file : List ℕ) → (refusalOf file ≡ 0 → ⊥) → readOf file .state ≡ founding
+
+-- 0, or a number of the table: "Reader refusals"
+abbrev pub isReadNumber : ℕ → Bool
+isReadNumber n = eqb n 0 || (ltb 20 n && ltb n 30)
+
+abbrev pub ReadNumbers : Type 0
+ReadNumbers = (file : List ℕ) → T (isReadNumber (refusalOf file))
+
+abbrev pub ReadNumber : Type 0
+ReadNumber = (file : List ℕ) → readOf file .refusal ≡ refusalOf file
 
 -- ---- the single encoding
 -- the file is accepted, with this state and this label block
@@ -65,6 +77,7 @@ LabelOf = (file : List ℕ) (k : ℕ) → refusalOf file ≡ 0 → k < labelCoun
 -- "the part of length 0 at the file's front"
 pub record AtFront (file : List ℕ) (a : ℕ) : Type 0 where
   pub starts : textAt file a ≡ 0
+  pub long : textLength file a ≡ 0
   pub text : labelText file a ≡ []
 
 -- "For a refused file, or an area with no label"
@@ -78,10 +91,17 @@ NoLabelOfArea = (file : List ℕ) (a : ℕ) → ((k : ℕ) → k < labelCount (p
 abbrev pub NoLabelAbove : Type 0
 NoLabelAbove = (file : List ℕ) (a : ℕ) → 32 ≤ a → AtFront file a
 
+-- so no label stands at the front, and where there is none the part does
+abbrev pub LabelBehindFront : Type 0
+LabelBehindFront = (file : List ℕ) (a : ℕ) → T (hasLabel file a) → 0 < textAt file a
+
+abbrev pub NoLabelAtFront : Type 0
+NoLabelAtFront = (file : List ℕ) (a : ℕ) → hasLabel file a ≡ false → AtFront file a
+
 -- the text lies in the file
 abbrev pub LabelInside : Type 0
 LabelInside = (file : List ℕ) (a : ℕ) → textAt file a + textLength file a ≤ length file
 
--- so two bytes hold the place where it ends
+-- an accepted file states its length in 16 bits, so these hold the place where the text ends
 abbrev pub LabelSmall : Type 0
 LabelSmall = (file : List ℕ) → AreBytes file → (a : ℕ) → textAt file a + textLength file a < 65536

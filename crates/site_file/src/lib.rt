@@ -142,10 +142,7 @@ fn is_accepted(file: &[u8]) -> bool
 pub fn label_place(file: &[u8], area: u8) -> Place
     ensures { λ r. ⌜ r ≡ placeOf (now (file .entry)) area ⌝ }
 {
-    let nowhere = Place {
-        at: 0,
-        length: 0,
-    };
+    let nowhere = Place { at: 0, length: 0 };
     if !is_accepted(file) {
         return nowhere;
     }

@@ -7,13 +7,13 @@ use Rattle.state.specs.declared.State.{State}
 use Rattle.records.specs.Record.{stateOf}
 use Rattle.machine.specs.Step.{replyOf}
 use Rattle.machine.specs.declared.Reply.{Reply}
-use Rattle.capi.specs.Interface.{replyCode, accessNumber}
+use Rattle.capi.specs.Interface.{answerOf, accessNumber}
 use Rattle.capi.proofs.Steps.{reply-is}
 use Rattle.capi.proofs.panelrights_access.Statement.{statement}
 use Rattle.capi.proofs.panelrights_access.Tie as tie
 
-answered : (state : List ℕ) (a b : ℕ) {s : State} {r : Reply} {n : ℕ} → n ≡ replyCode r → r ≡ replyOf s a b → s ≡ stateOf state → n ≡ accessNumber state a b
-answered state a b n r s = n ∙ ap replyCode (r ∙ ap (λ (t : State). replyOf t a b) s) ∙ sym (reply-is state a b)
+answered : (state : List ℕ) (a b : ℕ) {s : State} {r : Reply} {n : ℕ} → n ≡ answerOf r → r ≡ replyOf s a b → s ≡ stateOf state → n ≡ accessNumber state a b
+answered state a b n r s = n ∙ ap answerOf (r ∙ ap (λ (t : State). replyOf t a b) s) ∙ sym (reply-is state a b)
 
 state-of-requires : tie.Need-state-of-requires
 state-of-requires c κs = tt
@@ -21,12 +21,12 @@ state-of-requires c κs = tt
 ask-requires : tie.Need-ask-requires
 ask-requires c κs = tt
 
-code-of-requires : tie.Need-code-of-requires
-code-of-requires c κs = tt
+answer-of-requires : tie.Need-answer-of-requires
+answer-of-requires c κs = tt
 
 returns : tie.Need-returns
-returns c = answered _ _ _ (c .code-of .ensures) (c .before .ask .ensures .0) (c .before .before .state-of .ensures)
+returns c = answered _ _ _ (c .answer-of .ensures) (c .before .ask .ensures .0) (c .before .before .state-of .ensures)
 
 pub panelrights-access-spec : {M : Type 1} → statement M
 panelrights-access-spec =
-    tie.close (tie.spec state-of-requires ask-requires code-of-requires returns)
+    tie.close (tie.spec state-of-requires ask-requires answer-of-requires returns)

@@ -10,7 +10,7 @@ use lib.ListN.{length}
 use Rattle.state.specs.Cells.{Members, Pairs}
 use Rattle.state.specs.Site.{user, area, object, owner, definition, structure, import, export, recordOf}
 use Rattle.state.proofs.Bools.{holds}
-use Rattle.records.specs.Record.{recordSize, isRecord, listAt, pairsAt, stateAt, stateOf}
+use Rattle.records.specs.Record.{recordSize, isRecord, listAt, pairsAt, stateAt}
 use Rattle.records.proofs.Known.{record-length, record-state, no-record-empty}
 use Rattle.records.proofs.state_of.Statement.{statement}
 use Rattle.records.proofs.state_of.Tie as tie

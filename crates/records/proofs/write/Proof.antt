@@ -7,13 +7,13 @@ use mathlib.Core.List.{List, _++_}
 use native.Mathlib.Omega.{arith}
 use borrow.Author.Tests.{eq-eqb, ne-eqb}
 use denote.Ref.{now}
-use lib.Dec.{eqb}
 use lib.ListN.{length}
 use Rattle.state.specs.Site.{user, area, object, owner, definition, structure, import, export, Shaped}
 use Rattle.state.specs.declared.State.{State}
 use Rattle.state.proofs.Typed.{shaped-by-type}
-use Rattle.records.specs.Record.{recordSize, places, bytesOf, isSized, numberFor, stored}
+use Rattle.records.specs.Record.{recordSize, bytesOf, isSized, numberFor, stored}
 use Rattle.records.proofs.Lay.{Front, front-first, front-more, front-length, front-whole}
+use Rattle.records.proofs.Places.{places, by-cells}
 use Rattle.records.proofs.write.Statement.{statement}
 use Rattle.records.proofs.write.Tie as tie
 
@@ -25,9 +25,8 @@ kept : (b : List ℕ) (s : State) (v : Bool) → isSized b ≡ v → stored b s 
 unfolding stored
 kept b s v e = ap (λ (w : Bool). cond w (bytesOf s) b) e
 
-whole : (b : List ℕ) (s : State) (l : List ℕ) → length b ≡ recordSize → Front b recordSize (places s) l → l ≡ bytesOf s
-unfolding bytesOf
-whole b s l h t = front-whole b recordSize (places s) l h t
+whole : (b : List ℕ) (s : State) (l : List ℕ) → Shaped s → length b ≡ recordSize → Front b recordSize (places s) l → l ≡ bytesOf s
+whole b s l sh h t = front-whole b recordSize (places s) l h t ∙ sym (by-cells s sh)
 
 -- the state and the buffer that were handed over
 shaped : (c : tie.Start) → Shaped (c .args .t1)
@@ -100,7 +99,7 @@ returns-2 c =
     let buffer = now (tested .before .before .args .buffer) in
     let long = sized tested in
     let fits = eq-eqb (length buffer) recordSize long in
-    (sym (numbered buffer true fits), whole buffer _ _ long (laid8 (c .before .before)) ∙ sym (kept buffer _ true fits))
+    (sym (numbered buffer true fits), whole buffer _ _ (shaped (tested .before .before)) long (laid8 (c .before .before)) ∙ sym (kept buffer _ true fits))
 
 pub write-spec : {M : Type 1} → statement M
 write-spec =

@@ -6,7 +6,7 @@ use mathlib.Core.List.{List}
 use native.Mathlib.Omega.{arith}
 use lib.ListN.{length, take, drop}
 use Rattle.site_format.specs.Format.{behind}
-use Rattle.site_file.specs.Finder.{textAt, textLength, placeOf, labelText}
+use Rattle.site_file.specs.Finder.{textAt, placeOf, labelText}
 use Rattle.site_file.specs.declared.Place.{Place}
 use Rattle.site_file.proofs.Laws.{label-inside}
 use Rattle.site_file.proofs.label.Statement.{statement}

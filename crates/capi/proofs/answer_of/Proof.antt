@@ -1,11 +1,10 @@
--- `capi::code_of` meets its contract, by the two kinds of a reply.
+-- `capi::answer_of` meets its contract, by the two kinds of a reply.
 -- Assumes nothing.
-use mathlib.Core.Path.{sym, ap, _∙_}
-use native.Mathlib.Omega.{arith}
+use mathlib.Core.Path.{sym, ap}
 use borrow.Author.Needs.{needs}
-use Rattle.capi.specs.Interface.{replyCode}
-use Rattle.capi.proofs.code_of.Statement.{statement}
-use Rattle.capi.proofs.code_of.Tie as tie
+use Rattle.capi.specs.Interface.{answerOf}
+use Rattle.capi.proofs.answer_of.Statement.{statement}
+use Rattle.capi.proofs.answer_of.Tie as tie
 
 enum-known-reply : tie.Need-enum-known-reply
 enum-known-reply c = search needs
@@ -26,10 +25,10 @@ returns : tie.Need-returns
 returns c = search needs
 
 returns-2 : tie.Need-returns-2
-returns-2 c = ap replyCode (sym (c .before .reply2 .given .1))
+returns-2 c = ap answerOf (sym (c .before .reply2 .given .1))
 
-pub code-of-spec : {M : Type 1} → statement M
-code-of-spec =
+pub answer-of-spec : {M : Type 1} → statement M
+answer-of-spec =
     tie.close
     (tie.spec
     enum-known-reply
