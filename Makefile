@@ -40,7 +40,7 @@ test:
 
 bench: lib
 	@rt check panelrights >target/panelrights.log || { cat target/panelrights.log; exit 1; }
-	@CARGO_TARGET_DIR=target/cargo cargo run --quiet --release --manifest-path bench/Cargo.toml
+	@cd bench && CARGO_TARGET_DIR=../target/cargo cargo run --quiet --locked --release
 
 clean:
 	rm -rf target

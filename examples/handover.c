@@ -63,12 +63,12 @@ static void print_areas(const struct site *site)
 
     printf("Areas\n");
     for (area = 0; area < PANELRIGHTS_AREAS; area++) {
-        if (!site->state[PANELRIGHTS_AREA(area)])
+        if (!PANELRIGHTS_HAS_AREA(site->state, area))
             continue;
         printf("  ");
         print_area(site, area);
         for (outer = 0; outer < PANELRIGHTS_AREAS; outer++) {
-            if (site->state[PANELRIGHTS_STRUCTURE(area, outer)]) {
+            if (PANELRIGHTS_LIES_IN(site->state, area, outer)) {
                 printf(", in ");
                 print_area(site, outer);
             }
@@ -84,7 +84,7 @@ static void print_owners(const struct site *site)
     printf("\nWho may change what\n");
     for (user = 0; user < PANELRIGHTS_USERS; user++) {
         for (area = 0; area < PANELRIGHTS_AREAS; area++) {
-            if (site->state[PANELRIGHTS_OWNER(user, area)]) {
+            if (PANELRIGHTS_OWNS(site->state, user, area)) {
                 printf("  user %d may change ", user);
                 print_area(site, area);
                 printf("\n");
@@ -98,7 +98,7 @@ static void print_table(const struct site *site, uint8_t object)
     uint8_t area;
 
     for (area = 0; area < PANELRIGHTS_AREAS; area++) {
-        if (site->state[PANELRIGHTS_DEFINITION(object, area)]) {
+        if (PANELRIGHTS_DEFINED_IN(site->state, object, area)) {
             printf("  table %d, defined in ", object);
             print_area(site, area);
             printf("\n");
@@ -113,8 +113,8 @@ static void print_table(const struct site *site, uint8_t object)
         printf("    ");
         print_area(site, area);
         printf(" sees it over %d step%s%s%s\n", steps, steps == 1 ? "" : "s",
-               site->state[PANELRIGHTS_IMPORT(object, area)] ? ", imports it" : "",
-               site->state[PANELRIGHTS_EXPORT(object, area)] ? ", exports it" : "");
+               PANELRIGHTS_IMPORTED_BY(site->state, object, area) ? ", imports it" : "",
+               PANELRIGHTS_EXPORTED_BY(site->state, object, area) ? ", exports it" : "");
     }
 }
 
@@ -124,7 +124,7 @@ static void print_tables(const struct site *site)
 
     printf("\nWho sees which table\n");
     for (object = 0; object < PANELRIGHTS_OBJECTS; object++)
-        if (site->state[PANELRIGHTS_OBJECT(object)])
+        if (PANELRIGHTS_HAS_OBJECT(site->state, object))
             print_table(site, object);
 }
 

@@ -2,19 +2,28 @@
  * panelrights.h - who may see, lend, change and cut what on a site of fire panels.
  *
  * Link with libpanelrights.a (`make install` puts it in place; `pkg-config --cflags --libs panelrights`
- * gives the flags). C99 or later. The library needs memcpy and memset, allocates nothing, keeps nothing
- * between calls, and may be called from any number of threads, as long as none writes to a buffer that
- * another uses.
+ * gives the flags): C99 or later, x86-64 Linux. The library needs memcpy and memset, allocates nothing and
+ * keeps nothing between calls. A call takes less than 64 KiB of stack.
  *
  * You check nothing beforehand. Every function takes any bytes, any numbers and any length, and gives one
  * answer or one refusal number. What you must see to is C's own part:
  *   - a pointer and its length belong together: so many bytes may be read there, and written if the
  *     pointer is not const. With the length 0 the pointer may be NULL;
- *   - the buffers of one call do not overlap.
- * A call takes less than 64 KiB of stack.
+ *   - the buffers of one call do not overlap;
+ *   - nobody else writes to a buffer during a call (a mapped file that others write to: copy it first).
+ *     Apart from that, any number of threads may call.
  *
- * Users and areas are numbered 0 to 31, objects 0 to 63. An area is a panel, a loop or a building; an
- * object is a table that is stored on a panel.
+ * The words. Users and areas are numbered 0 to 31, objects 0 to 63. An area is a panel, a loop or a
+ * building; an object is a table that is stored on a panel. Which of them a site has is said by its lists:
+ * a number is listed or not. A user owns areas, an area defines objects, and an area may lie in others.
+ * An object moves one step outward, from an area that exports it to an area that this one lies in; or one
+ * step inward, from an area to one that lies in it and imports the object. An area has access to an object
+ * if it defines it, or if a chain of steps leads there from the area that does.
+ * A state is sound if whatever it names is listed, each listed user owns an area, each listed area has an
+ * owner, each listed object is defined in exactly one area, there is an area, and each area has access to
+ * what it imports or exports. From a sound state every step leads to a sound one.
+ *
+ * The library does not know who calls it: that the activator is who he says is your program's business.
  */
 #ifndef PANELRIGHTS_H
 #define PANELRIGHTS_H
@@ -26,35 +35,62 @@
 extern "C" {
 #endif
 
-/*
- * The record of a state: 8,320 bytes, one a place, 1 where the number is listed or the pair is there, and
- * 0 where not. Any other byte makes it no record. You may keep, copy and compare records as bytes: equal
- * states have equal records.
- *
- * The macros say where a part begins and which byte belongs to a number or pair; they check nothing.
- */
 enum {
     PANELRIGHTS_USERS = 32,
     PANELRIGHTS_AREAS = 32,
     PANELRIGHTS_OBJECTS = 64,
-    PANELRIGHTS_STATE_BYTES = 8320 /* the same as panelrights_state_bytes(), for an array's length */
+    PANELRIGHTS_STATE_BYTES = 8320 /* what panelrights_state_bytes() gives, for an array's length */
 };
 
-#define PANELRIGHTS_USER(user) ((size_t)(user))
-#define PANELRIGHTS_AREA(area) (32 + (size_t)(area))
-#define PANELRIGHTS_OBJECT(object) (64 + (size_t)(object))
-#define PANELRIGHTS_OWNER(user, area) (128 + (size_t)(user) * 32 + (size_t)(area))
-#define PANELRIGHTS_DEFINITION(object, area) (1152 + (size_t)(object) * 32 + (size_t)(area))
-#define PANELRIGHTS_STRUCTURE(inner, outer) (3200 + (size_t)(inner) * 32 + (size_t)(outer))
-#define PANELRIGHTS_IMPORT(object, area) (4224 + (size_t)(object) * 32 + (size_t)(area))
-#define PANELRIGHTS_EXPORT(object, area) (6272 + (size_t)(object) * 32 + (size_t)(area))
+/*
+ * The record of a state: 8,320 bytes, one a place, 1 where a number is listed or a pair is there, and 0
+ * where not. Bytes of another length, or with any other byte in them, are no record. Equal states have
+ * equal records, so records may be copied and compared as bytes.
+ *
+ *   from byte  bytes  place                          holds
+ *           0     32  user                           the user is listed
+ *          32     32  area                           the area is listed
+ *          64     64  object                         the object is listed
+ *         128  1,024  user * 32 + area               the user owns the area
+ *       1,152  2,048  object * 32 + area             the object is defined in the area
+ *       3,200  1,024  inner * 32 + outer             the inner area lies in the outer
+ *       4,224  2,048  object * 32 + area             the area imports the object
+ *       6,272  2,048  object * 32 + area             the area exports the object
+ *
+ * A record is for the memory of one program: a later version of the library may have another length and
+ * another layout (compare panelrights_state_bytes() with PANELRIGHTS_STATE_BYTES once, at the start). On
+ * disk, and between programs, keep site files. A record has no seal: whoever can write to it can make any
+ * other state of it.
+ *
+ * These read a record: 1 if the number is listed or the pair is there, else 0, also for a number out of
+ * range. They may evaluate an argument twice.
+ */
+#define PANELRIGHTS_HAS_USER(state, user) PANELRIGHTS_LISTED_(state, 0, PANELRIGHTS_USERS, user)
+#define PANELRIGHTS_HAS_AREA(state, area) PANELRIGHTS_LISTED_(state, 32, PANELRIGHTS_AREAS, area)
+#define PANELRIGHTS_HAS_OBJECT(state, object) PANELRIGHTS_LISTED_(state, 64, PANELRIGHTS_OBJECTS, object)
+#define PANELRIGHTS_OWNS(state, user, area) PANELRIGHTS_PAIR_(state, 128, PANELRIGHTS_USERS, user, area)
+#define PANELRIGHTS_DEFINED_IN(state, object, area) \
+    PANELRIGHTS_PAIR_(state, 1152, PANELRIGHTS_OBJECTS, object, area)
+#define PANELRIGHTS_LIES_IN(state, inner, outer) \
+    PANELRIGHTS_PAIR_(state, 3200, PANELRIGHTS_AREAS, inner, outer)
+#define PANELRIGHTS_IMPORTED_BY(state, object, area) \
+    PANELRIGHTS_PAIR_(state, 4224, PANELRIGHTS_OBJECTS, object, area)
+#define PANELRIGHTS_EXPORTED_BY(state, object, area) \
+    PANELRIGHTS_PAIR_(state, 6272, PANELRIGHTS_OBJECTS, object, area)
+
+/* For the macros above only. */
+#define PANELRIGHTS_LISTED_(state, start, limit, number) \
+    ((size_t)(number) < (size_t)(limit) && (state)[(size_t)(start) + (size_t)(number)] == 1)
+#define PANELRIGHTS_PAIR_(state, start, limit, first, area)                    \
+    ((size_t)(first) < (size_t)(limit) && (size_t)(area) < PANELRIGHTS_AREAS && \
+     (state)[(size_t)(start) + (size_t)(first) * 32 + (size_t)(area)] == 1)
 
 /* The codes of instructions. `a` is an area in all; what `b` is stands behind each. */
 enum panelrights_code {
     PANELRIGHTS_LIST_AREA = 1,         /* list new area a, owned by the activator; b is 0 */
-    PANELRIGHTS_UNLIST_AREA = 2,       /* unlist area a; b is 0 */
+    PANELRIGHTS_UNLIST_AREA = 2,       /* unlist area a, and the activator if he then owns none; b is 0 */
     PANELRIGHTS_ADD_OWNER = 3,         /* user b becomes an owner of area a, and is listed if he was not */
-    PANELRIGHTS_REMOVE_OWNER = 4,      /* user b is no longer an owner of area a */
+    PANELRIGHTS_REMOVE_OWNER = 4,      /* user b no longer owns area a; he is unlisted if he then owns none */
     PANELRIGHTS_ADD_STRUCTURE = 5,     /* area a lies in area b */
     PANELRIGHTS_REMOVE_STRUCTURE = 6,  /* area a no longer lies in area b */
     PANELRIGHTS_DEFINE = 7,            /* object b is listed, and defined in area a */
@@ -68,38 +104,37 @@ enum panelrights_code {
 /*
  * The refusals. Where more than one applies you get the first in the order of the checks: for an
  * instruction 12, then 1 to 11 upwards; for the access question 12, 2, 4; for a site file 31, then the
- * lowest number.
+ * lowest number. A later version may have more numbers: keep a default case.
  */
 enum panelrights_refusal {
-    PANELRIGHTS_OK = 0,                  /* accepted */
-    PANELRIGHTS_UNKNOWN_CODE = 1,        /* the code is 0 or above 12 */
-    PANELRIGHTS_OUT_OF_RANGE = 2,        /* a user or area above 31, an object above 63, or b not 0 for
-                                            codes 1 and 2 */
-    PANELRIGHTS_ACTIVATOR_UNLISTED = 3,  /* the activator is not listed */
-    PANELRIGHTS_NOT_LISTED = 4,          /* the area, user or object that is named is not listed */
-    PANELRIGHTS_NOT_OWNER = 5,           /* the activator lacks the ownership: of a; of a and b for
-                                            code 5; of a or b for code 6 */
-    PANELRIGHTS_ALREADY_THERE = 6,       /* an add of what is there */
-    PANELRIGHTS_NOT_THERE = 7,           /* a remove of a pair that is not there */
-    PANELRIGHTS_LAST_ONE = 8,            /* the sole owner of an area, or the only listed area, would go */
-    PANELRIGHTS_AREA_IN_USE = 9,         /* the area still has another owner, an object, or a structure,
-                                            import or export pair */
-    PANELRIGHTS_LACKS_ACCESS = 10,       /* the area would import or export what it has no access to */
-    PANELRIGHTS_ACCESS_LOST = 11,        /* an area would lose its access to what it imports or exports */
-    PANELRIGHTS_UNSOUND_STATE = 12,      /* the bytes are no record, or the record's state is not sound */
+    PANELRIGHTS_OK = 0, /* accepted */
 
-    PANELRIGHTS_FILE_TOO_SHORT = 21,     /* under 28 bytes */
-    PANELRIGHTS_FILE_VERSION = 22,       /* the version is not 1 */
-    PANELRIGHTS_FILE_LENGTH = 23,        /* the stated length is not that of the bytes given */
-    PANELRIGHTS_FILE_COUNT = 24,         /* a count above its limit */
-    PANELRIGHTS_FILE_OFFSET = 25,        /* a table, or the end, stands elsewhere than it should */
-    PANELRIGHTS_FILE_RANGE = 26,         /* a number, length, text byte or filler byte outside its range */
-    PANELRIGHTS_FILE_ORDER = 27,         /* a table that is not strictly ascending */
-    PANELRIGHTS_FILE_LISTS = 28,         /* no owner pair; an unlisted area or object named; an object
-                                            defined twice */
-    PANELRIGHTS_FILE_LACKS_ACCESS = 29,  /* an import or export pair whose area lacks access */
+    PANELRIGHTS_UNKNOWN_CODE = 1,       /* the code is 0 or above 12 */
+    PANELRIGHTS_OUT_OF_RANGE = 2,       /* a number above its limit, or b not 0 for codes 1 and 2 */
+    PANELRIGHTS_ACTIVATOR_UNLISTED = 3, /* the activator is not listed */
+    PANELRIGHTS_NOT_LISTED = 4,         /* the area, user or object that is named is not listed */
+    PANELRIGHTS_NOT_OWNER = 5,          /* the activator does not own a; code 5: a and b; code 6: a or b */
+    PANELRIGHTS_ALREADY_THERE = 6,      /* an add of what is there; also an object of another area */
+    PANELRIGHTS_NOT_THERE = 7,          /* a remove of a pair that is not there */
+    PANELRIGHTS_LAST_ONE = 8,           /* the sole owner of an area, or the only listed area, would go */
+    PANELRIGHTS_AREA_IN_USE = 9,        /* the area has another owner or an object, or stands in a pair */
+    PANELRIGHTS_WOULD_LACK_ACCESS = 10, /* even with the new import or export the area lacks access */
+    PANELRIGHTS_WOULD_LOSE_ACCESS = 11, /* an area would lack access to what it imports or exports */
+    PANELRIGHTS_UNSOUND_STATE = 12,     /* the bytes are no record, or the state is not sound */
 
-    PANELRIGHTS_STATE_LENGTH = 31        /* state_len is not panelrights_state_bytes() */
+    PANELRIGHTS_FILE_TOO_SHORT = 21,    /* under 28 bytes */
+    PANELRIGHTS_FILE_VERSION = 22,      /* the version is not 1 */
+    PANELRIGHTS_FILE_LENGTH = 23,       /* the stated length is not that of the bytes given */
+    PANELRIGHTS_FILE_COUNT = 24,        /* a count above its limit */
+    PANELRIGHTS_FILE_OFFSET = 25,       /* a table, or the end, stands elsewhere than it should */
+    PANELRIGHTS_FILE_RANGE = 26,        /* a number, length, text byte or filler byte outside its range */
+    PANELRIGHTS_FILE_ORDER = 27,        /* a table that is not strictly ascending */
+    PANELRIGHTS_FILE_LISTS = 28,        /* no owner pair; something unlisted named; an object defined twice */
+    PANELRIGHTS_FILE_LACKS_ACCESS = 29, /* an import or export pair whose area lacks access */
+
+    /* panelrights_founding, panelrights_read_file: the state buffer has another length than a record. (A
+       record of another length is 12 where one is read: panelrights_step, panelrights_access.) */
+    PANELRIGHTS_BUFFER_LENGTH = 31
 };
 
 /* How many bytes the record of a state has: 8,320. */
@@ -115,8 +150,7 @@ uint8_t panelrights_founding(uint8_t *state, size_t state_len);
  * Obeys one instruction. 0, and the record is that of the state after it; or the refusal, 1 to 12, and no
  * byte is changed. A record of another length, or with a byte other than 0 and 1, is 12.
  */
-uint8_t panelrights_step(uint8_t *state, size_t state_len, uint8_t code, uint8_t activator, uint8_t a,
-                         uint8_t b);
+uint8_t panelrights_step(uint8_t *state, size_t state_len, uint8_t code, uint8_t activator, uint8_t a, uint8_t b);
 
 /* What panelrights_access answers for "no access", and what it adds to a refusal. */
 enum { PANELRIGHTS_NO_ACCESS = 255, PANELRIGHTS_ACCESS_REFUSED = 256 };
@@ -124,30 +158,31 @@ enum { PANELRIGHTS_NO_ACCESS = 255, PANELRIGHTS_ACCESS_REFUSED = 256 };
 /*
  * In how many steps does the object reach the area? The number of steps in a shortest chain from the area
  * that defines it: 0 for that area itself, and never above 31. 255 for no access; 256 + n for refusal n,
- * which is 12, 2 or 4.
+ * which is 12, 2 or 4. Keep the answer in 16 bits: in 8, refusal 12 would read as 12 steps.
  */
 uint16_t panelrights_access(const uint8_t *state, size_t state_len, uint8_t area, uint8_t object);
 
 /*
  * Reads a site file. 0, and the record is that of the file's state; or the refusal, 21 to 29, and the
- * record is that of the founding state. 31 and no byte written, whatever the file has, if state_len is not
- * panelrights_state_bytes().
+ * record is that of the founding state: what was in the buffer is gone, so read into a second one if you
+ * need it. 31 and no byte written, whatever the file has, if state_len is not panelrights_state_bytes().
  */
 uint8_t panelrights_read_file(const uint8_t *file, size_t file_len, uint8_t *state, size_t state_len);
 
 /*
  * Where the text of the area's label stands in the file: offset * 65536 + length. 0 if there is none: the
  * file is refused, or the area has no label (any number above 31 too). The text has 1 to 30 bytes, each 32
- * to 126, and no byte 0 behind it that you may rely on.
+ * to 126, and no byte 0 behind it that you may rely on. Labels are in no record: keep the file's bytes for
+ * them. Each call checks the whole file.
  */
 uint32_t panelrights_label(const uint8_t *file, size_t file_len, uint8_t area);
 
 #define PANELRIGHTS_LABEL_OFFSET(label) ((size_t)((label) >> 16))
-#define PANELRIGHTS_LABEL_LENGTH(label) ((size_t)((label) & 0xffff))
+#define PANELRIGHTS_LABEL_LENGTH(label) ((size_t)((label)&0xffff))
 
 /*
- * Of eight marks in a byte, the lowest number in the lowest bit: the place (0 to 7) of the lowest mark set,
- * 8 if none.
+ * For a program's own list of areas, eight marks in a byte, the lowest number in the lowest bit: the place
+ * (0 to 7) of the lowest mark set, 8 if none.
  */
 uint8_t panelrights_lowest_mark(uint8_t marks);
 

@@ -33,7 +33,7 @@ static void use_record(uint8_t *state)
 /* A record of another length is not looked at beyond it. */
 static void use_short_record(uint8_t *state, size_t length)
 {
-    CHECK_NUMBER(panelrights_founding(state, length), PANELRIGHTS_STATE_LENGTH);
+    CHECK_NUMBER(panelrights_founding(state, length), PANELRIGHTS_BUFFER_LENGTH);
     CHECK_NUMBER(panelrights_step(state, length, PANELRIGHTS_LIST_AREA, 0, 31, 0), PANELRIGHTS_UNSOUND_STATE);
     CHECK_NUMBER(panelrights_access(state, length, 0, 0),
                  PANELRIGHTS_ACCESS_REFUSED + PANELRIGHTS_UNSOUND_STATE);

@@ -115,15 +115,15 @@ static void test_accepted(void)
     untouched = site;
     CHECK_NUMBER(panelrights_read_file(good_file, sizeof good_file, site.state, sizeof site.state),
                  PANELRIGHTS_OK);
-    expected[PANELRIGHTS_USER(0)] = 1;
-    expected[PANELRIGHTS_AREA(0)] = expected[PANELRIGHTS_AREA(1)] = expected[PANELRIGHTS_AREA(2)] = 1;
-    expected[PANELRIGHTS_OBJECT(9)] = 1;
-    expected[PANELRIGHTS_OWNER(0, 0)] = expected[PANELRIGHTS_OWNER(0, 1)] =
-        expected[PANELRIGHTS_OWNER(0, 2)] = 1;
-    expected[PANELRIGHTS_DEFINITION(9, 1)] = 1;
-    expected[PANELRIGHTS_STRUCTURE(0, 2)] = expected[PANELRIGHTS_STRUCTURE(1, 2)] = 1;
-    expected[PANELRIGHTS_IMPORT(9, 0)] = 1;
-    expected[PANELRIGHTS_EXPORT(9, 1)] = 1;
+    expected[USER_AT(0)] = 1;
+    expected[AREA_AT(0)] = expected[AREA_AT(1)] = expected[AREA_AT(2)] = 1;
+    expected[OBJECT_AT(9)] = 1;
+    expected[OWNER_AT(0, 0)] = expected[OWNER_AT(0, 1)] =
+        expected[OWNER_AT(0, 2)] = 1;
+    expected[DEFINITION_AT(9, 1)] = 1;
+    expected[STRUCTURE_AT(0, 2)] = expected[STRUCTURE_AT(1, 2)] = 1;
+    expected[IMPORT_AT(9, 0)] = 1;
+    expected[EXPORT_AT(9, 1)] = 1;
     CHECK(memcmp(site.state, expected, sizeof expected) == 0);
     CHECK(memcmp(site.before, untouched.before, GUARD) == 0);
     CHECK(memcmp(site.behind, untouched.behind, GUARD) == 0);

@@ -41,14 +41,14 @@ static void test_session(void)
     CHECK_NUMBER(ask(&site, 2, 9), 1);
 
     run_session(&site, 12);
-    expected[PANELRIGHTS_USER(0)] = expected[PANELRIGHTS_USER(4)] = 1;
-    expected[PANELRIGHTS_AREA(0)] = expected[PANELRIGHTS_AREA(1)] = expected[PANELRIGHTS_AREA(2)] = 1;
-    expected[PANELRIGHTS_OBJECT(9)] = 1;
-    expected[PANELRIGHTS_OWNER(0, 0)] = expected[PANELRIGHTS_OWNER(0, 1)] = 1;
-    expected[PANELRIGHTS_OWNER(0, 2)] = expected[PANELRIGHTS_OWNER(4, 0)] = 1;
-    expected[PANELRIGHTS_DEFINITION(9, 1)] = 1;
-    expected[PANELRIGHTS_STRUCTURE(1, 2)] = 1;
-    expected[PANELRIGHTS_EXPORT(9, 1)] = 1;
+    expected[USER_AT(0)] = expected[USER_AT(4)] = 1;
+    expected[AREA_AT(0)] = expected[AREA_AT(1)] = expected[AREA_AT(2)] = 1;
+    expected[OBJECT_AT(9)] = 1;
+    expected[OWNER_AT(0, 0)] = expected[OWNER_AT(0, 1)] = 1;
+    expected[OWNER_AT(0, 2)] = expected[OWNER_AT(4, 0)] = 1;
+    expected[DEFINITION_AT(9, 1)] = 1;
+    expected[STRUCTURE_AT(1, 2)] = 1;
+    expected[EXPORT_AT(9, 1)] = 1;
     CHECK(memcmp(site.state, expected, sizeof expected) == 0);
     CHECK_NUMBER(ask(&site, 0, 9), PANELRIGHTS_NO_ACCESS);
 }
@@ -76,11 +76,11 @@ static const struct {
     {0, {{4, 0, 0, 0}}, PANELRIGHTS_LAST_ONE},
     {0, {{2, 0, 0, 0}}, PANELRIGHTS_LAST_ONE},
     {2, {{1, 0, 1, 0}, {7, 0, 1, 9}, {2, 0, 1, 0}}, PANELRIGHTS_AREA_IN_USE},
-    {2, {{1, 0, 1, 0}, {7, 0, 0, 9}, {9, 0, 1, 9}}, PANELRIGHTS_LACKS_ACCESS},
+    {2, {{1, 0, 1, 0}, {7, 0, 0, 9}, {9, 0, 1, 9}}, PANELRIGHTS_WOULD_LACK_ACCESS},
     /* Areas 1 and 2 lie in each other, and no chain leads to either. */
     {5,
      {{1, 0, 1, 0}, {1, 0, 2, 0}, {7, 0, 0, 9}, {5, 0, 1, 2}, {5, 0, 2, 1}, {9, 0, 1, 9}},
-     PANELRIGHTS_LACKS_ACCESS},
+     PANELRIGHTS_WOULD_LACK_ACCESS},
 };
 
 static void test_refusals(void)
@@ -96,10 +96,10 @@ static void test_refusals(void)
         step(&site, examples[i].lines[line], examples[i].refusal);
     }
     run_session(&site, 8);
-    step(&site, session[8].instruction, PANELRIGHTS_ACCESS_LOST);
+    step(&site, session[8].instruction, PANELRIGHTS_WOULD_LOSE_ACCESS);
     /* Area 3 listed, no owner. */
     found(&site);
-    site.state[PANELRIGHTS_AREA(3)] = 1;
+    site.state[AREA_AT(3)] = 1;
     step(&site, list_area, PANELRIGHTS_UNSOUND_STATE);
 }
 
@@ -113,7 +113,7 @@ static void test_access(void)
     CHECK_NUMBER(ask(&site, 255, 255), PANELRIGHTS_ACCESS_REFUSED + PANELRIGHTS_OUT_OF_RANGE);
     CHECK_NUMBER(ask(&site, 3, 9), PANELRIGHTS_ACCESS_REFUSED + PANELRIGHTS_NOT_LISTED);
     CHECK_NUMBER(ask(&site, 0, 8), PANELRIGHTS_ACCESS_REFUSED + PANELRIGHTS_NOT_LISTED);
-    site.state[PANELRIGHTS_AREA(3)] = 1;
+    site.state[AREA_AT(3)] = 1;
     CHECK_NUMBER(ask(&site, 32, 9), PANELRIGHTS_ACCESS_REFUSED + PANELRIGHTS_UNSOUND_STATE);
 }
 

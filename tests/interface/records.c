@@ -16,13 +16,13 @@ static void refuse_length(size_t length)
     memory[GUARD + PANELRIGHTS_STATE_BYTES] = 0;
     memcpy(given, memory, sizeof memory);
 
-    CHECK_NUMBER(panelrights_founding(state, length), PANELRIGHTS_STATE_LENGTH);
+    CHECK_NUMBER(panelrights_founding(state, length), PANELRIGHTS_BUFFER_LENGTH);
     CHECK_NUMBER(panelrights_step(state, length, PANELRIGHTS_LIST_AREA, 0, 1, 0), PANELRIGHTS_UNSOUND_STATE);
     CHECK_NUMBER(panelrights_step(state, length, 0, 255, 255, 255), PANELRIGHTS_UNSOUND_STATE);
     CHECK_NUMBER(panelrights_access(state, length, 0, 0),
                  PANELRIGHTS_ACCESS_REFUSED + PANELRIGHTS_UNSOUND_STATE);
-    CHECK_NUMBER(panelrights_read_file(good_file, sizeof good_file, state, length), PANELRIGHTS_STATE_LENGTH);
-    CHECK_NUMBER(panelrights_read_file(NULL, 0, state, length), PANELRIGHTS_STATE_LENGTH);
+    CHECK_NUMBER(panelrights_read_file(good_file, sizeof good_file, state, length), PANELRIGHTS_BUFFER_LENGTH);
+    CHECK_NUMBER(panelrights_read_file(NULL, 0, state, length), PANELRIGHTS_BUFFER_LENGTH);
     CHECK(memcmp(memory, given, sizeof memory) == 0);
 }
 
@@ -64,10 +64,58 @@ static void test_founding(void)
 
     CHECK_NUMBER(panelrights_state_bytes(), PANELRIGHTS_STATE_BYTES);
     found(&site);
-    expected[PANELRIGHTS_USER(0)] = expected[PANELRIGHTS_AREA(0)] = expected[PANELRIGHTS_OWNER(0, 0)] = 1;
+    expected[USER_AT(0)] = expected[AREA_AT(0)] = expected[OWNER_AT(0, 0)] = 1;
     CHECK(memcmp(site.state, expected, sizeof expected) == 0);
     for (i = 0; i < GUARD; i++)
         CHECK(site.before[i] == 0xa5 && site.behind[i] == 0xa5);
+}
+
+/* How many places the reading macros find, over all numbers and the first few out of range. */
+static unsigned found_places(const uint8_t *state)
+{
+    unsigned places = 0, first, area;
+
+    for (first = 0; first < 70; first++) {
+        places += PANELRIGHTS_HAS_USER(state, first) + PANELRIGHTS_HAS_AREA(state, first);
+        places += PANELRIGHTS_HAS_OBJECT(state, first);
+        for (area = 0; area < 70; area++) {
+            places += PANELRIGHTS_OWNS(state, first, area) + PANELRIGHTS_LIES_IN(state, first, area);
+            places += PANELRIGHTS_DEFINED_IN(state, first, area);
+            places += PANELRIGHTS_IMPORTED_BY(state, first, area);
+            places += PANELRIGHTS_EXPORTED_BY(state, first, area);
+        }
+    }
+    return places;
+}
+
+/* Each place is read by one macro, with one pair of numbers. */
+static void test_reading(void)
+{
+    uint8_t state[PANELRIGHTS_STATE_BYTES] = {0};
+    unsigned first, area;
+
+    CHECK_NUMBER(found_places(state), 0);
+    state[OWNER_AT(7, 30)] = 1;
+    CHECK(PANELRIGHTS_OWNS(state, 7, 30) && !PANELRIGHTS_OWNS(state, 6, 62) && !PANELRIGHTS_OWNS(state, -1, 0));
+    CHECK_NUMBER(found_places(state), 1);
+    memset(state, 1, sizeof state);
+    CHECK_NUMBER(found_places(state), PANELRIGHTS_STATE_BYTES);
+    for (first = 0; first < 64; first++) {
+        if (first < 32)
+            state[USER_AT(first)] = state[AREA_AT(first)] = 0;
+        state[OBJECT_AT(first)] = 0;
+        CHECK(!PANELRIGHTS_HAS_USER(state, first) && !PANELRIGHTS_HAS_AREA(state, first));
+        CHECK(!PANELRIGHTS_HAS_OBJECT(state, first));
+        for (area = 0; area < 32; area++) {
+            if (first < 32)
+                state[OWNER_AT(first, area)] = state[STRUCTURE_AT(first, area)] = 0;
+            state[DEFINITION_AT(first, area)] = state[IMPORT_AT(first, area)] = state[EXPORT_AT(first, area)] = 0;
+            CHECK(!PANELRIGHTS_OWNS(state, first, area) && !PANELRIGHTS_LIES_IN(state, first, area));
+            CHECK(!PANELRIGHTS_DEFINED_IN(state, first, area) && !PANELRIGHTS_IMPORTED_BY(state, first, area));
+            CHECK(!PANELRIGHTS_EXPORTED_BY(state, first, area));
+        }
+    }
+    CHECK_NUMBER(found_places(state), 0);
 }
 
 void test_records(void)
@@ -76,6 +124,7 @@ void test_records(void)
     size_t place;
 
     test_founding();
+    test_reading();
     refuse_length(0);
     refuse_length(1);
     refuse_length(PANELRIGHTS_STATE_BYTES - 1);

@@ -14,6 +14,16 @@ void check_number(unsigned long got, unsigned long expected, const char *what, c
 /* How many checks there were so far. */
 unsigned long checks(void);
 
+/* Where a place of a record is, by the header's table. */
+#define USER_AT(user) (user)
+#define AREA_AT(area) (32 + (area))
+#define OBJECT_AT(object) (64 + (object))
+#define OWNER_AT(user, area) (128 + (user)*32 + (area))
+#define DEFINITION_AT(object, area) (1152 + (object)*32 + (area))
+#define STRUCTURE_AT(inner, outer) (3200 + (inner)*32 + (outer))
+#define IMPORT_AT(object, area) (4224 + (object)*32 + (area))
+#define EXPORT_AT(object, area) (6272 + (object)*32 + (area))
+
 /* A record with the bytes before and behind it, which no call may write. */
 enum { GUARD = 64 };
 struct guarded {

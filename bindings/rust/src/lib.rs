@@ -25,7 +25,7 @@
 //!
 //! // As long as panel 0 borrows the table, the loan can't be taken back.
 //! let refusal = site.step(Kind::RemoveExport { area: 1, object: 9 }.by(0)).unwrap_err();
-//! assert_eq!(refusal, Refusal::AccessLost);
+//! assert_eq!(refusal, Refusal::WouldLoseAccess);
 //! println!("{refusal}");
 //! # Ok(())
 //! # }

@@ -83,10 +83,10 @@ refusals! {
     AreaInUse = 9: "The area is still in use: it has another owner or a table, lies in an area or has one in it, or imports or \
         exports a table. Remove all these first.";
     /// The area would import or export an object that it has no access to.
-    LacksAccess = 10: "The table does not reach the area, so the area can't import or export it. Either the area must lie in one \
+    WouldLackAccess = 10: "The table does not reach the area, so the area can't import or export it. Either the area must lie in one \
         that sees the table and import it from there, or an area inside it that sees the table must export it.";
     /// An area that imports or exports an object would lose its access to it.
-    AccessLost = 11: "An area that imports or exports a table would lose its access to it. Take back its export and its import of \
+    WouldLoseAccess = 11: "An area that imports or exports a table would lose its access to it. Take back its export and its import of \
         the table first, beginning with the area that is the most steps away.";
     /// The bytes are no record, or the record's state is not sound.
     UnsoundState = 12: "The record of the site is damaged, so nothing is decided on it. Go back to the site file or to the last \
@@ -120,7 +120,7 @@ refusals! {
         or export, or enter what leads the table there, and save the site anew.";
 
     /// The state buffer has another length than a record.
-    StateLength = 31: "The record of the site has the wrong length. The program that kept it is at fault: tell its maker, and go \
+    BufferLength = 31: "The record of the site has the wrong length. The program that kept it is at fault: tell its maker, and go \
         back to the site file.";
 }
 

@@ -55,7 +55,7 @@ const EXPORTS: Part = Part::relation(6272, OBJECTS);
 /// assert_eq!(site.access(0, 9)?, None);
 ///
 /// // Area 0 can't borrow what does not reach it.
-/// assert_eq!(site.step(Kind::AddImport { area: 0, object: 9 }.by(0)), Err(Refusal::LacksAccess));
+/// assert_eq!(site.step(Kind::AddImport { area: 0, object: 9 }.by(0)), Err(Refusal::WouldLackAccess));
 ///
 /// // It can once it lies in area 1.
 /// site.step(Kind::AddStructure { inner: 0, outer: 1 }.by(0))?;
@@ -80,10 +80,10 @@ impl State {
         State { record }
     }
 
-    /// The state of a record that was kept, for instance on a disk. Any bytes may be given: [`Refusal::StateLength`] for another
-    /// length than 8,320, [`Refusal::UnsoundState`] for bytes that are no record or whose state is not sound.
+    /// The state of a record that was kept in memory; on a disk keep site files, since a later version of the library may have
+    /// other records. Any bytes may be given: [`Refusal::BufferLength`] for another length than 8,320, [`Refusal::UnsoundState`] for bytes that are no record or whose state is not sound.
     pub fn from_record(bytes: &[u8]) -> Result<State, Refusal> {
-        let record: &[u8; sys::STATE_BYTES] = bytes.try_into().map_err(|_| Refusal::StateLength)?;
+        let record: &[u8; sys::STATE_BYTES] = bytes.try_into().map_err(|_| Refusal::BufferLength)?;
         let state = State { record: Box::new(*record) };
         // The access question is refused as 12 before its numbers are looked at, which here are out of range.
         match state.access(AREAS, OBJECTS) {

@@ -136,7 +136,7 @@ fn the_longest_chain() {
     for area in 0..32 {
         assert_eq!(state.access(area, 63), Ok(Some(area)));
     }
-    assert_eq!(state.step([12, 0, 0, 63]), Err(Refusal::AccessLost), "the lost pairs are up to 30 steps off");
+    assert_eq!(state.step([12, 0, 0, 63]), Err(Refusal::WouldLoseAccess), "the lost pairs are up to 30 steps off");
 }
 
 #[test]

@@ -21,7 +21,7 @@ fn a_kept_record_comes_back() {
 fn records_of_another_length() {
     let long = [State::founding().as_record(), &[0]].concat();
     for length in [0, 1, 8319, 8321] {
-        assert_eq!(State::from_record(&long[..length]), Err(Refusal::StateLength), "{length}");
+        assert_eq!(State::from_record(&long[..length]), Err(Refusal::BufferLength), "{length}");
     }
     assert_eq!(State::from_record(&long[..8320]), Ok(State::founding()));
 }

@@ -16,7 +16,7 @@ pub struct Reading {
     pub state: State,
 }
 
-// A part of a file: where it starts, and how many bytes it has.
+// Where a text stands in a file: its first byte, and how many it has.
 pub struct Place {
     pub at: u16,
     pub length: u8,
