@@ -13,9 +13,9 @@ use lib.ListN.{length, getD, length-append, List·getD-append, List·getD-map}
 use lib.Seq.{getD-append-add}
 use Rattle.state.specs.Tabulate.{tabulate}
 use Rattle.state.specs.Cells.{width, member, pair}
-use Rattle.state.specs.Site.{Kind, user, area, object, Relation, owner, definition, structure, import, export, limit, firstKind, listed, related, members, cells, Shaped}
+use Rattle.state.specs.Site.{Kind, user, area, object, Relation, owner, definition, structure, import, export, limit, firstKind, members, cells, Shaped}
 use Rattle.state.specs.declared.State.{State}
-use Rattle.records.specs.Record.{listStart, pairStart, recordSize, bit, bits, listBytes, pairBytes, bytesOf}
+use Rattle.records.specs.Record.{listStart, pairStart, recordSize, bit, bits, listByte, listBytes, pairByte, pairBytes, bytesOf}
 use Rattle.state.proofs.Tabulate.{length-tabulate, tabulate-is}
 use Rattle.state.proofs.Laws.{member-cell, pair-cell}
 use Rattle.records.proofs.Lay.{bits-append, bits-length}
@@ -68,16 +68,16 @@ record Long (x : List ℕ) (n : ℕ) : Type 0 where
   pub long : length x ≡ n
 
 and-list : (s : State) (k : Kind) {x : List ℕ} (m : ℕ) → Long x m → Long (x ++ listBytes s k) (m + limit k)
-and-list s k {x} m t = record { long = length-append x (listBytes s k) ∙ ap₂ _+_ (t .long) (length-tabulate (λ i. bit (listed s k i)) (limit k)) }
+and-list s k {x} m t = record { long = length-append x (listBytes s k) ∙ ap₂ _+_ (t .long) (length-tabulate (listByte s k) (limit k)) }
 
 and-pairs : (s : State) (r : Relation) {x : List ℕ} (m : ℕ) → Long x m → Long (x ++ pairBytes s r) (m + limit (firstKind r) * width)
 and-pairs s r {x} m t =
-    record { long = length-append x (pairBytes s r) ∙ ap₂ _+_ (t .long) (length-tabulate (λ p. bit (related s r (p / width) (p % width))) (limit (firstKind r) * width)) }
+    record { long = length-append x (pairBytes s r) ∙ ap₂ _+_ (t .long) (length-tabulate (pairByte s r) (limit (firstKind r) * width)) }
 
 pub bytes-length : (s : State) → length (bytesOf s) ≡ recordSize
 unfolding bytesOf
 bytes-length s =
-    let users : Long (listBytes s user) 32 = record { long = length-tabulate (λ i. bit (listed s user i)) 32 } in
+    let users : Long (listBytes s user) 32 = record { long = length-tabulate (listByte s user) 32 } in
     let objects = and-list s object 64 (and-list s area 32 users) in
     let structures = and-pairs s structure 3200 (and-pairs s definition 1152 (and-pairs s owner 128 objects)) in
     and-pairs s export 6272 (and-pairs s import 4224 structures) .long

@@ -39,12 +39,18 @@ abbrev pub bit : Bool → ℕ
 bit v = cond v 1 0
 
 -- one byte for each number that may be listed
+abbrev pub listByte : State → Kind → ℕ → ℕ
+listByte s k i = bit (listed s k i)
+
 abbrev pub listBytes : State → Kind → List ℕ
-listBytes s k = tabulate (limit k) (λ i. bit (listed s k i))
+listBytes s k = tabulate (limit k) (listByte s k)
 
 -- one byte for each pair that may be there: byte p is that of (p / 32, p % 32), so the byte of (i, j) is byte i * 32 + j
+abbrev pub pairByte : State → Relation → ℕ → ℕ
+pairByte s r p = bit (related s r (p / width) (p % width))
+
 abbrev pub pairBytes : State → Relation → List ℕ
-pairBytes s r = tabulate (limit (firstKind r) * width) (λ p. bit (related s r (p / width) (p % width)))
+pairBytes s r = tabulate (limit (firstKind r) * width) (pairByte s r)
 
 -- "in this order: users 32, areas 32, objects 64, owners 1,024 (user * 32 + area), definitions 2,048 (object * 32 + area), structure 1,024 (inner * 32 + outer), imports
 -- 2,048, exports 2,048 (object * 32 + area)"
