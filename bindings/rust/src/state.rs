@@ -39,7 +39,7 @@ const STRUCTURE: Part = Part::relation(3200, AREAS);
 const IMPORTS: Part = Part::relation(4224, OBJECTS);
 const EXPORTS: Part = Part::relation(6272, OBJECTS);
 
-/// A sound state of a site: the founding one, that of a site file, that of a stored record, or what steps made of one of
+/// A sound state of a site: the founding one, that of a site file, that of a record, or what steps made of one of
 /// these. A state that is not sound can't be had, so 12 never comes from [`step`](State::step) or [`access`](State::access).
 ///
 /// It is 8,320 bytes on the heap; equal states have equal bytes.
@@ -81,7 +81,8 @@ impl State {
     }
 
     /// The state of a record that was kept in memory; on a disk keep site files, since a later version of the library may have
-    /// other records. Any bytes may be given: [`Refusal::BufferLength`] for another length than 8,320, [`Refusal::UnsoundState`] for bytes that are no record or whose state is not sound.
+    /// other records. Any bytes may be given: [`Refusal::BufferLength`] for another length than 8,320,
+    /// [`Refusal::UnsoundState`] for bytes that are no record or whose state is not sound.
     pub fn from_record(bytes: &[u8]) -> Result<State, Refusal> {
         let record: &[u8; sys::STATE_BYTES] = bytes.try_into().map_err(|_| Refusal::BufferLength)?;
         let state = State { record: Box::new(*record) };

@@ -1,0 +1,128 @@
+//! One case: what both sides are asked, and both answers.
+
+use crate::answer::Answer;
+use crate::site::Site;
+use crate::{expected, lending, library, program};
+use std::borrow::Cow;
+
+#[derive(Clone, Debug, PartialEq, Eq)]
+pub enum Case<'a> {
+    /// The founding state into a buffer of so many bytes.
+    Founding {
+        buffer_len: usize,
+    },
+    Step {
+        site: Cow<'a, Site>,
+        instruction: [u8; 4],
+    },
+    Access {
+        site: Cow<'a, Site>,
+        area: u8,
+        object: u8,
+    },
+    /// A list of instructions, one after the other, and what demand 3 says of it.
+    List {
+        site: Cow<'a, Site>,
+        list: Cow<'a, [[u8; 4]]>,
+    },
+    /// A site file, read into a buffer of so many bytes.
+    Read {
+        file: Cow<'a, [u8]>,
+        buffer_len: usize,
+    },
+    Label {
+        file: Cow<'a, [u8]>,
+        area: u8,
+    },
+    Mark {
+        marks: u8,
+    },
+    /// Standard input of PanelRights.
+    Program {
+        input: Cow<'a, [u8]>,
+    },
+}
+
+impl<'a> Case<'a> {
+    pub fn step(site: &'a Site, instruction: [u8; 4]) -> Case<'a> {
+        Case::Step {
+            site: Cow::Borrowed(site),
+            instruction,
+        }
+    }
+
+    pub fn access(site: &'a Site, area: u8, object: u8) -> Case<'a> {
+        Case::Access {
+            site: Cow::Borrowed(site),
+            area,
+            object,
+        }
+    }
+
+    pub fn list(site: &'a Site, list: &'a [[u8; 4]]) -> Case<'a> {
+        Case::List {
+            site: Cow::Borrowed(site),
+            list: Cow::Borrowed(list),
+        }
+    }
+
+    pub fn read(file: &'a [u8], buffer_len: usize) -> Case<'a> {
+        Case::Read {
+            file: Cow::Borrowed(file),
+            buffer_len,
+        }
+    }
+
+    pub fn label(file: &'a [u8], area: u8) -> Case<'a> {
+        Case::Label {
+            file: Cow::Borrowed(file),
+            area,
+        }
+    }
+
+    pub fn program(input: &'a [u8]) -> Case<'a> {
+        Case::Program {
+            input: Cow::Borrowed(input),
+        }
+    }
+
+    /// The word that its text begins with.
+    pub fn kind(&self) -> &'static str {
+        match self {
+            Case::Founding { .. } => "founding",
+            Case::Step { .. } => "step",
+            Case::Access { .. } => "access",
+            Case::List { .. } => "list",
+            Case::Read { .. } => "read",
+            Case::Label { .. } => "label",
+            Case::Mark { .. } => "mark",
+            Case::Program { .. } => "program",
+        }
+    }
+
+    pub fn by_library(&self) -> Answer {
+        match self {
+            Case::Founding { buffer_len } => library::founding(*buffer_len),
+            Case::Step { site, instruction } => library::step(&site.record, *instruction),
+            Case::Access { site, area, object } => library::access(&site.record, *area, *object),
+            Case::List { site, list } => lending::run_by_library(site, list),
+            Case::Read { file, buffer_len } => library::read_file(file, *buffer_len),
+            Case::Label { file, area } => library::label(file, *area),
+            Case::Mark { marks } => Answer::new(library::lowest_mark(*marks), vec![]),
+            Case::Program { input } => program::run_program(input),
+        }
+    }
+
+    pub fn by_reference(&self) -> Answer {
+        match self {
+            Case::Founding { buffer_len } => expected::founding(*buffer_len),
+            Case::Step { site, instruction } => expected::step(site, *instruction),
+            Case::Access { site, area, object } => expected::access(site, *area, *object),
+            Case::List { site, list } => expected::run(site, list),
+            Case::Read { file, buffer_len } => expected::read_file(file, *buffer_len),
+            Case::Label { file, area } => expected::label(file, *area),
+            Case::Mark { marks } => Answer::new(reference::lowest_mark(*marks), vec![]),
+            Case::Program { input } => Answer::new(0_u32, reference::transcript(input)),
+        }
+    }
+}

@@ -1,0 +1,112 @@
+//! Every sound state over users 0 and 1, areas 0 and 1 and object 0, with every instruction and access question over
+//! those numbers, the first number beyond them and the first beyond the limits.
+
+use crate::case::Case;
+use crate::library;
+use crate::seen::Seen;
+use crate::shards::Plan;
+use crate::site::Site;
+use reference::State;
+use std::collections::BTreeSet;
+use std::sync::Mutex;
+
+/// Two users, two areas, one object; four owner pairs, two definitions, four structure pairs, two imports, two exports.
+const PLACES: u32 = 19;
+
+const AREA_PAIRS: [(u8, u8); 4] = [(0, 0), (0, 1), (1, 0), (1, 1)];
+const OBJECT_PAIRS: [(u8, u8); 2] = [(0, 0), (0, 1)];
+
+pub fn run(plan: &Plan) -> (String, Seen) {
+    let small = reference::small_states();
+    let (accepted, mut seen) = sound_by_library(plan);
+    seen.demand(accepted == small, &not_the_same(&accepted, &small));
+    let sites: Vec<Site> = small.into_iter().map(Site::of_state).collect();
+    let asked = plan.run("exhaustive", |shard, _, seen| {
+        for site in sites.iter().skip(shard).step_by(plan.shards()) {
+            every_instruction(site, seen);
+            every_question(site, seen);
+        }
+    });
+    let line = format!(
+        "of {} records {} sound by the library, {} by the reference; \
+         {} steps, answers 0 to 11: {:?}; {} access questions",
+        1 << PLACES,
+        accepted.len(),
+        sites.len(),
+        asked.total("step"),
+        asked.each("step", 0..=11),
+        asked.total("access"),
+    );
+    seen.add(asked);
+    (line, seen)
+}
+
+/// Each of the records, put to the library: the states that it does not answer 12 for.
+fn sound_by_library(plan: &Plan) -> (BTreeSet<State>, Seen) {
+    let accepted: Mutex<BTreeSet<State>> = Mutex::default();
+    let seen = plan.run("records", |shard, _, seen| {
+        for places in (shard as u32..1 << PLACES).step_by(plan.shards()) {
+            let site = Site::of_state(state_of(places));
+            seen.compare(&Case::step(&site, library::NO_INSTRUCTION));
+            if library::is_sound(&site.record) {
+                accepted.lock().expect("no shard has failed").extend(site.state);
+            }
+        }
+    });
+    (accepted.into_inner().expect("no shard has failed"), seen)
+}
+
+/// The state with what the marked places stand for, the lowest bit first.
+fn state_of(mut places: u32) -> State {
+    State {
+        users: take(&mut places, &[0, 1]),
+        areas: take(&mut places, &[0, 1]),
+        objects: take(&mut places, &[0]),
+        owners: take(&mut places, &AREA_PAIRS),
+        definitions: take(&mut places, &OBJECT_PAIRS),
+        structure: take(&mut places, &AREA_PAIRS),
+        imports: take(&mut places, &OBJECT_PAIRS),
+        exports: take(&mut places, &OBJECT_PAIRS),
+    }
+}
+
+/// The items whose places are marked; their places are taken off.
+fn take<T: Copy + Ord>(places: &mut u32, items: &[T]) -> BTreeSet<T> {
+    let marks = *places;
+    *places >>= items.len();
+    items
+        .iter()
+        .enumerate()
+        .filter(|(place, _)| marks >> place & 1 == 1)
+        .map(|(_, &item)| item)
+        .collect()
+}
+
+fn not_the_same(by_library: &BTreeSet<State>, by_reference: &BTreeSet<State>) -> String {
+    let only = |one: &BTreeSet<State>, other: &BTreeSet<State>| one.difference(other).count();
+    format!(
+        "sound small states: {} by the library alone, {} by the reference's list alone",
+        only(by_library, by_reference),
+        only(by_reference, by_library)
+    )
+}
+
+fn every_instruction(site: &Site, seen: &mut Seen) {
+    for code in 0..=13 {
+        for activator in [0, 1, 2, 32] {
+            for a in [0, 1, 2, 32] {
+                for b in [0, 1, 2, 32, 64] {
+                    seen.compare(&Case::step(site, [code, activator, a, b]));
+                }
+            }
+        }
+    }
+}
+
+fn every_question(site: &Site, seen: &mut Seen) {
+    for area in [0, 1, 2, 32] {
+        for object in [0, 1, 64] {
+            seen.compare(&Case::access(site, area, object));
+        }
+    }
+}

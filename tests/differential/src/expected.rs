@@ -1,0 +1,72 @@
+//! What the reference says a caller of panelrights.h gets.
+
+use crate::answer::Answer;
+use crate::library::UNWRITTEN;
+use crate::site::Site;
+use reference::{State, RECORD_BYTES};
+
+/// "the state buffer has another length than panelrights_state_bytes()"
+const STATE_LENGTH: u32 = 31;
+const NO_ACCESS: u32 = 255;
+const ACCESS_REFUSED: u32 = 256;
+
+fn founding_record() -> Vec<u8> {
+    reference::to_record(&State::founding())
+}
+
+pub fn founding(buffer_len: usize) -> Answer {
+    match buffer_len {
+        RECORD_BYTES => Answer::new(0_u32, founding_record()),
+        _ => Answer::new(STATE_LENGTH, vec![UNWRITTEN; buffer_len]),
+    }
+}
+
+pub fn step(site: &Site, instruction: [u8; 4]) -> Answer {
+    let after = match &site.state {
+        Some(state) => reference::step(state, instruction).map(|after| reference::to_record(&after)),
+        None => reference::step_record(&site.record, instruction),
+    };
+    match after {
+        Ok(record) => Answer::new(0_u32, record),
+        Err(refusal) => Answer::new(refusal, site.record.clone()),
+    }
+}
+
+pub fn access(site: &Site, area: u8, object: u8) -> Answer {
+    let steps = match &site.state {
+        Some(state) => reference::access(state, area, object),
+        None => Err(12),
+    };
+    let number = match steps {
+        Ok(steps) => steps.map_or(NO_ACCESS, u32::from),
+        Err(refusal) => ACCESS_REFUSED + u32::from(refusal),
+    };
+    Answer::new(number, site.record.clone())
+}
+
+pub fn read_file(file: &[u8], buffer_len: usize) -> Answer {
+    if buffer_len != RECORD_BYTES {
+        return Answer::new(STATE_LENGTH, vec![UNWRITTEN; buffer_len]);
+    }
+    match reference::read_file(file) {
+        Ok((state, _)) => Answer::new(0_u32, reference::to_record(&state)),
+        Err(refusal) => Answer::new(refusal, founding_record()),
+    }
+}
+
+/// The place by the reference's label finder, the text by its reader.
+pub fn label(file: &[u8], area: u8) -> Answer {
+    let (offset, length) = reference::label(file, area);
+    let text = reference::read_file(file)
+        .ok()
+        .and_then(|(_, labels)| labels.get(&area).cloned());
+    Answer::new((offset * 65536 + length) as u32, text.unwrap_or_default())
+}
+
+pub fn run(site: &Site, list: &[[u8; 4]]) -> Answer {
+    let record = match &site.state {
+        Some(state) => reference::to_record(&reference::run(state, list)),
+        None => site.record.clone(),
+    };
+    Answer::new(0_u32, record)
+}

@@ -1,0 +1,112 @@
+//! Site files, right and damaged, and the labels in them.
+
+use crate::byte_damage::BYTE_DAMAGES;
+use crate::case::Case;
+use crate::draft::{random_labels, random_text, Draft};
+use crate::seen::Seen;
+use crate::shards::Plan;
+use crate::site::OTHER_LENGTHS;
+use crate::states::{sound_state, Shape};
+use crate::table_damage::TABLE_DAMAGES;
+use chance::Chance;
+use reference::{Labels, State, RECORD_BYTES};
+
+/// How many states a shard has, and how many files are made of each.
+const STATES: usize = 1250;
+const FILES: usize = 10;
+
+/// How many of a shard's files are the largest that there is, or nearly.
+const LARGEST: usize = 6;
+
+pub fn run(plan: &Plan) -> (String, Seen) {
+    let mut seen = plan.run("files", |_, chance, seen| {
+        for _ in 0..STATES {
+            let shape = shape(chance);
+            let state = sound_state(shape, chance);
+            let labels = random_labels(&state, chance);
+            (0..FILES).for_each(|_| one_file(&state, &labels, chance, seen));
+        }
+        let (state, labels) = largest(chance);
+        (0..LARGEST).for_each(|_| one_file(&state, &labels, chance, seen));
+    });
+    seen.require("read", [0], 5000);
+    seen.require("read", 21..=29, 200);
+    seen.require("read", [31], 200);
+    seen.require("table damage", 0..TABLE_DAMAGES.len() as u32, 200);
+    seen.require("byte damage", 0..BYTE_DAMAGES.len() as u32, 200);
+    let line = format!(
+        "{} files, answers 0, 21 to 29, 31: {:?}; {} labels asked for, {} found",
+        seen.total("read"),
+        seen.each("read", [0].into_iter().chain(21..=29).chain([31])),
+        seen.total("label"),
+        seen.total("label") - seen.times("label", 0),
+    );
+    (line, seen)
+}
+
+fn shape(chance: &mut Chance) -> Shape {
+    match chance.below(100) {
+        0..70 => Shape::Sparse,
+        70..80 => Shape::Medium,
+        80..87 => Shape::Chain,
+        87..99 => Shape::Ring,
+        _ => Shape::Dense,
+    }
+}
+
+/// Every pair that a relation can have; only what is defined where is left to choose.
+fn largest(chance: &mut Chance) -> (State, Labels) {
+    let row = |first: u8| (0..32).map(move |second| (first, second));
+    let pairs = |firsts: u8| (0..firsts).flat_map(row).collect();
+    let state = State {
+        users: (0..32).collect(),
+        areas: (0..32).collect(),
+        objects: (0..64).collect(),
+        owners: pairs(32),
+        definitions: (0..64).map(|object| (object, chance.below(32) as u8)).collect(),
+        structure: pairs(32),
+        imports: pairs(64),
+        exports: pairs(64),
+    };
+    let labels = (0..32).map(|area| (area, random_text(chance))).collect();
+    (state, labels)
+}
+
+fn one_file(state: &State, labels: &Labels, chance: &mut Chance, seen: &mut Seen) {
+    let mut draft = Draft::new(state, labels);
+    for _ in 0..chance.pick(&[0, 0, 1, 1, 1, 2]) {
+        let damage = chance.below(TABLE_DAMAGES.len());
+        TABLE_DAMAGES[damage](&mut draft, chance);
+        seen.count("table damage", damage as u32);
+    }
+    let mut file = draft.bytes();
+    for _ in 0..chance.pick(&[0, 0, 0, 0, 1, 1, 2]) {
+        let damage = chance.below(BYTE_DAMAGES.len());
+        BYTE_DAMAGES[damage](&mut file, chance);
+        seen.count("byte damage", damage as u32);
+    }
+    if chance.once_in(40) {
+        seen.compare(&Case::read(&file, chance.pick(&OTHER_LENGTHS)));
+    }
+    compare_file(&file, labels, chance, seen);
+}
+
+/// The reader, and the label finder: for every area in some files, for two in the others.
+fn compare_file(file: &[u8], labels: &Labels, chance: &mut Chance, seen: &mut Seen) {
+    let read = seen.compare(&Case::read(file, RECORD_BYTES));
+    if read.is_some_and(|answer| answer.number == 0) {
+        let again = reference::read_file(file).map(|(state, labels)| reference::write_file(&state, &labels));
+        seen.demand(
+            again.as_deref() == Ok(file),
+            "an accepted file is the one that the reference writes",
+        );
+    }
+    let labelled: Vec<u8> = labels.keys().copied().chain([255]).collect();
+    let areas = match chance.once_in(12) {
+        true => (0..=33).chain([255]).collect(),
+        false => vec![chance.below(33) as u8, chance.pick(&labelled)],
+    };
+    for area in areas {
+        seen.compare(&Case::label(file, area));
+    }
+}

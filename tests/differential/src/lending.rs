@@ -1,0 +1,153 @@
+//! Demand 3, executed: lists of instructions of any four bytes, run over the library while the owners of an area stay
+//! silent.
+
+use crate::answer::Answer;
+use crate::case::Case;
+use crate::instructions::{any_bytes, instruction, Domain};
+use crate::library;
+use crate::numbers::{firsts_with, members};
+use crate::seen::Seen;
+use crate::shards::Plan;
+use crate::site::Site;
+use crate::states::{sound_state, Shape};
+use chance::Chance;
+use reference::State;
+
+/// For each shape, how many lists a shard has.
+const LISTS: [(Shape, usize); 5] = [
+    (Shape::Sparse, 900),
+    (Shape::Ring, 800),
+    (Shape::Chain, 250),
+    (Shape::Medium, 250),
+    (Shape::Dense, 3),
+];
+
+const LONGEST_LIST: usize = 30;
+
+pub fn run(plan: &Plan) -> (String, Seen) {
+    let mut seen = plan.run("lending", |_, chance, seen| {
+        for (shape, lists) in LISTS {
+            (0..lists).for_each(|_| one_list(shape, chance, seen));
+        }
+    });
+    seen.require("silent area", [0], 5000);
+    seen.require("silent area with entries", [0], 5000);
+    seen.require("changed", [0], 5000);
+    seen.require("instruction", 0..=11, 500);
+    let line = format!(
+        "{} lists, {} of them with a change; instructions, answers 0 to 11: {:?}; \
+         areas with no owner among the activators: {}, {} of them with imports or exports",
+        seen.total("list"),
+        seen.times("changed", 0),
+        seen.each("instruction", 0..=11),
+        seen.times("silent area", 0),
+        seen.times("silent area with entries", 0),
+    );
+    (line, seen)
+}
+
+fn one_list(shape: Shape, chance: &mut Chance, seen: &mut Seen) {
+    let (start, silent) = start(shape, chance);
+    let list = list_without(&start, silent, chance, seen);
+    let acts = |area: u8| list.iter().any(|bytes| start.owners.contains(&(bytes[1], area)));
+    for &area in start.areas.iter().filter(|&&area| !acts(area)) {
+        seen.count("silent area", 0);
+        if entries(&start).any(|entry| entry.1 == area) {
+            seen.count("silent area with entries", 0);
+        }
+    }
+    let site = Site::of_state(start);
+    if let Some(answer) = seen.compare(&Case::list(&site, &list)) {
+        if answer.bytes != site.record {
+            seen.count("changed", 0);
+        }
+    }
+}
+
+fn entries(state: &State) -> impl Iterator<Item = &(u8, u8)> {
+    state.imports.iter().chain(&state.exports)
+}
+
+/// A sound state, and the area whose owners are to be silent: mostly one with imports or exports, and with a user who
+/// does not own it.
+fn start(shape: Shape, chance: &mut Chance) -> (State, u8) {
+    loop {
+        let state = sound_state(shape, chance);
+        let all = members(&state.areas);
+        let with_entries: Vec<u8> = entries(&state).map(|entry| entry.1).collect();
+        let any = with_entries.is_empty() || chance.once_in(5);
+        let area = chance.pick(if any { &all } else { &with_entries });
+        let owned_by_all = state.users.iter().all(|&user| state.owners.contains(&(user, area)));
+        if !owned_by_all || chance.once_in(20) {
+            return (state, area);
+        }
+    }
+}
+
+/// A list, perhaps empty, in which no owner of the area activates anything. Most of it fits the state where it stands.
+fn list_without(start: &State, silent: u8, chance: &mut Chance, seen: &mut Seen) -> Vec<[u8; 4]> {
+    let owners = firsts_with(&start.owners, silent);
+    let mut list = Vec::new();
+    let mut state = start.clone();
+    for _ in 0..chance.below(LONGEST_LIST + 1) {
+        let bytes = bytes_without(&state, &owners, chance);
+        list.push(bytes);
+        match reference::step(&state, bytes) {
+            Ok(next) => {
+                state = next;
+                seen.count("instruction", 0);
+            }
+            Err(refusal) => seen.count("instruction", refusal.into()),
+        }
+    }
+    list
+}
+
+/// Any four bytes, or an instruction of another user, or one that fits the silent owners in another's name.
+fn bytes_without(state: &State, silent: &[u8], chance: &mut Chance) -> [u8; 4] {
+    let mut others = members(&state.users);
+    others.retain(|user| !silent.contains(user));
+    let mut bytes = match chance.below(10) {
+        0 => any_bytes(chance),
+        1..4 => instruction(state, &Domain::whole(silent), chance),
+        _ if others.is_empty() => any_bytes(chance),
+        _ => instruction(state, &Domain::whole(&others), chance),
+    };
+    if silent.contains(&bytes[1]) || chance.once_in(10) {
+        let anyone: Vec<u8> = (0..=255).filter(|user| !silent.contains(user)).collect();
+        let any = others.is_empty() || chance.once_in(4);
+        bytes[1] = chance.pick(if any { &anyone } else { &others });
+    }
+    bytes
+}
+
+/// The list over the library: the record at its end, and a complaint if demand 3 does not hold of it.
+pub fn run_by_library(site: &Site, list: &[[u8; 4]]) -> Answer {
+    let mut now = Answer::new(0_u32, site.record.clone());
+    let mut complaints = Vec::new();
+    for &instruction in list {
+        now = library::step(&now.bytes, instruction);
+        complaints.push(now.complaint);
+    }
+    if !library::is_sound(&now.bytes) {
+        complaints.push("the library calls the state after the list unsound".to_string());
+    }
+    if let (Some(start), Some(end)) = (&site.state, reference::from_record(&now.bytes)) {
+        complaints.extend(broken_promises(start, list, &end));
+    }
+    complaints.retain(|complaint| !complaint.is_empty());
+    Answer {
+        complaint: complaints.join("; "),
+        ..Answer::new(0_u32, now.bytes)
+    }
+}
+
+/// What demand 3 says and is not so, of a sound state at the start.
+fn broken_promises(start: &State, list: &[[u8; 4]], end: &State) -> Vec<String> {
+    let lost = |&area: &u8| reference::lending_guarantee(start, list, end, area).err();
+    let mut broken: Vec<String> = start.areas.iter().filter_map(lost).collect();
+    if !end.is_sound() {
+        broken.push("the reference calls the state after the list unsound".to_string());
+    }
+    broken
+}

@@ -1,0 +1,129 @@
+//! The library's calls. Each buffer that it gets stands between guard bytes. All unsafe code of the tests is here.
+
+use crate::answer::Answer;
+use panelrights::sys;
+
+/// An odd number, so that the buffer stands at an odd address.
+const GUARD_BYTES: usize = 37;
+const GUARD: u8 = 0x5a;
+
+/// What a buffer holds before a call that is to write it: neither 0 nor 1, so that every byte left alone shows.
+pub const UNWRITTEN: u8 = 0xaa;
+
+/// A buffer between guard bytes.
+struct Guarded {
+    bytes: Vec<u8>,
+    len: usize,
+}
+
+impl Guarded {
+    fn new(content: &[u8]) -> Guarded {
+        let mut bytes = vec![GUARD; content.len() + 2 * GUARD_BYTES];
+        bytes[GUARD_BYTES..GUARD_BYTES + content.len()].copy_from_slice(content);
+        Guarded {
+            bytes,
+            len: content.len(),
+        }
+    }
+
+    /// NULL where the buffer is empty, as panelrights.h allows.
+    fn pointer(&mut self) -> *mut u8 {
+        match self.len {
+            0 => std::ptr::null_mut(),
+            _ => self.bytes[GUARD_BYTES..].as_mut_ptr(),
+        }
+    }
+
+    fn content(&self) -> &[u8] {
+        &self.bytes[GUARD_BYTES..GUARD_BYTES + self.len]
+    }
+
+    fn guards_stand(&self) -> bool {
+        let (front, rest) = self.bytes.split_at(GUARD_BYTES);
+        front.iter().chain(&rest[self.len..]).all(|&byte| byte == GUARD)
+    }
+
+    /// Ends the call: its number and the content left here, and a complaint if a byte outside has changed.
+    fn answer(self, number: impl Into<u32>) -> Answer {
+        let mut answer = Answer::new(number, self.content().to_vec());
+        if !self.guards_stand() {
+            answer.complaint = "a byte beside the buffer was changed".to_string();
+        }
+        answer
+    }
+}
+
+pub fn state_bytes() -> usize {
+    // SAFETY: it takes nothing.
+    unsafe { sys::panelrights_state_bytes() }
+}
+
+/// Into a buffer of so many bytes.
+pub fn founding(buffer_len: usize) -> Answer {
+    let mut buffer = Guarded::new(&vec![UNWRITTEN; buffer_len]);
+    // SAFETY: so many bytes may be read and written there.
+    let number = unsafe { sys::panelrights_founding(buffer.pointer(), buffer_len) };
+    buffer.answer(number)
+}
+
+pub fn step(record: &[u8], [code, activator, a, b]: [u8; 4]) -> Answer {
+    let mut buffer = Guarded::new(record);
+    // SAFETY: so many bytes may be read and written there.
+    let number = unsafe { sys::panelrights_step(buffer.pointer(), record.len(), code, activator, a, b) };
+    buffer.answer(number)
+}
+
+/// No code, so that a sound state answers 1, and any other 12.
+pub const NO_INSTRUCTION: [u8; 4] = [0; 4];
+
+/// Does the library call the state of the record sound?
+pub fn is_sound(record: &[u8]) -> bool {
+    step(record, NO_INSTRUCTION).number != 12
+}
+
+pub fn access(record: &[u8], area: u8, object: u8) -> Answer {
+    let mut buffer = Guarded::new(record);
+    // SAFETY: so many bytes may be read there.
+    let number = unsafe { sys::panelrights_access(buffer.pointer(), record.len(), area, object) };
+    buffer.answer(number)
+}
+
+/// Into a buffer of so many bytes.
+pub fn read_file(file: &[u8], buffer_len: usize) -> Answer {
+    let mut lent = Guarded::new(file);
+    let mut buffer = Guarded::new(&vec![UNWRITTEN; buffer_len]);
+    // SAFETY: so many bytes may be read in the one, and read and written in the other; they are two.
+    let number = unsafe { sys::panelrights_read_file(lent.pointer(), file.len(), buffer.pointer(), buffer_len) };
+    let mut answer = buffer.answer(number);
+    complain_of_change(&mut answer, &lent, file);
+    answer
+}
+
+/// The bytes are the label's text.
+pub fn label(file: &[u8], area: u8) -> Answer {
+    let mut lent = Guarded::new(file);
+    // SAFETY: so many bytes may be read there.
+    let number = unsafe { sys::panelrights_label(lent.pointer(), file.len(), area) };
+    let (offset, length) = ((number >> 16) as usize, (number & 0xffff) as usize);
+    let mut answer = match file.get(offset..offset + length) {
+        Some(text) => Answer::new(number, text.to_vec()),
+        None => Answer {
+            complaint: "the label stands outside the file".to_string(),
+            ..Answer::new(number, vec![])
+        },
+    };
+    complain_of_change(&mut answer, &lent, file);
+    answer
+}
+
+pub fn lowest_mark(marks: u8) -> u8 {
+    // SAFETY: any byte will do.
+    unsafe { sys::panelrights_lowest_mark(marks) }
+}
+
+/// A buffer that is only to be read must hold what it held.
+fn complain_of_change(answer: &mut Answer, lent: &Guarded, before: &[u8]) {
+    if lent.content() != before || !lent.guards_stand() {
+        answer.complaint = "the file, or a byte beside it, was changed".to_string();
+    }
+}

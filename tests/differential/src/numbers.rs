@@ -1,0 +1,47 @@
+//! Random choices among the numbers of users, areas and objects.
+
+use chance::Chance;
+use std::collections::BTreeSet;
+
+pub type Pairs = BTreeSet<(u8, u8)>;
+
+/// So many different numbers below the limit, in any order.
+pub fn some_of(limit: usize, count: usize, chance: &mut Chance) -> Vec<u8> {
+    let mut numbers: Vec<u8> = (0..limit).map(|number| number as u8).collect();
+    for place in 0..count {
+        numbers.swap(place, place + chance.below(limit - place));
+    }
+    numbers.truncate(count);
+    numbers
+}
+
+/// One of the numbers; any below the limit once in so many times, or if there are none.
+pub fn pick_or(numbers: &[u8], limit: usize, once_in: usize, chance: &mut Chance) -> u8 {
+    if numbers.is_empty() || chance.once_in(once_in) {
+        return chance.below(limit) as u8;
+    }
+    chance.pick(numbers)
+}
+
+/// The numbers below the limit that are not in the list.
+pub fn free(list: &[u8], limit: usize) -> Vec<u8> {
+    (0..limit as u8).filter(|number| !list.contains(number)).collect()
+}
+
+pub fn members(set: &BTreeSet<u8>) -> Vec<u8> {
+    set.iter().copied().collect()
+}
+
+/// What stands first in the pairs with this second number.
+pub fn firsts_with(pairs: &Pairs, second: u8) -> Vec<u8> {
+    pairs
+        .iter()
+        .filter(|pair| pair.1 == second)
+        .map(|pair| pair.0)
+        .collect()
+}
+
+/// What stands second in the pairs with this first number.
+pub fn seconds_with(pairs: &Pairs, first: u8) -> Vec<u8> {
+    pairs.iter().filter(|pair| pair.0 == first).map(|pair| pair.1).collect()
+}

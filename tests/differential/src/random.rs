@@ -1,0 +1,171 @@
+//! Random steps over random states, and records that are none or not sound.
+
+use crate::case::Case;
+use crate::instructions::instruction_of_anyone;
+use crate::numbers::members;
+use crate::seen::Seen;
+use crate::shards::Plan;
+use crate::site::{Site, OTHER_LENGTHS};
+use crate::states::{sound_state, Shape};
+use crate::unsound::turned;
+use chance::Chance;
+use reference::{State, RECORD_BYTES};
+
+/// For each shape, how many walks a shard has, and how many steps each of them. Dense states are dear in the reference.
+const WALKS: [(Shape, usize, usize); 5] = [
+    (Shape::Sparse, 500, 40),
+    (Shape::Medium, 200, 40),
+    (Shape::Chain, 250, 25),
+    (Shape::Ring, 250, 40),
+    (Shape::Dense, 16, 25),
+];
+
+/// For each shape, how many states a shard has that the access question is asked of for every area and object.
+const QUESTIONED: [(Shape, usize); 4] = [
+    (Shape::Sparse, 45),
+    (Shape::Ring, 10),
+    (Shape::Chain, 6),
+    (Shape::Medium, 6),
+];
+
+/// How many listed areas and objects are asked about at the end of a walk.
+const QUESTIONS: usize = 4;
+
+/// How many records a shard has with some places turned, and how many of another length.
+const TURNED: usize = 2000;
+const MISSIZED: usize = 200;
+
+const UNSOUND: u32 = 12;
+
+/// The answers that each code can have, but for 12, 1 and 2.
+const ANSWERS: [(u32, &[u32]); 12] = [
+    (1, &[0, 3, 6]),
+    (2, &[0, 3, 4, 5, 8, 9]),
+    (3, &[0, 3, 4, 5, 6]),
+    (4, &[0, 3, 4, 5, 7, 8]),
+    (5, &[0, 3, 4, 5, 6]),
+    (6, &[0, 3, 4, 5, 7, 11]),
+    (7, &[0, 3, 4, 5, 6]),
+    (8, &[0, 3, 4, 5, 7, 11]),
+    (9, &[0, 3, 4, 5, 6, 10]),
+    (10, &[0, 3, 4, 5, 7, 11]),
+    (11, &[0, 3, 4, 5, 6, 10]),
+    (12, &[0, 3, 4, 5, 7, 11]),
+];
+
+pub fn run(plan: &Plan) -> (String, Seen) {
+    let mut seen = plan.run("random", |_, chance, seen| {
+        for (shape, walks, steps) in WALKS {
+            (0..walks).for_each(|_| walk(sound_state(shape, chance), steps, chance, seen));
+        }
+        (0..TURNED).for_each(|_| turned_record(chance, seen));
+        (0..MISSIZED).for_each(|_| missized_record(chance, seen));
+        every_place(chance, seen);
+        for (shape, states) in QUESTIONED {
+            (0..states).for_each(|_| every_question(sound_state(shape, chance), seen));
+        }
+    });
+    seen.require("step", 0..=12, 500);
+    seen.require("access", (0..=31).chain([255, 258, 260, 268]), 10);
+    seen.require("questioned states", [0], 500);
+    for (code, answers) in ANSWERS {
+        seen.require("code and answer", answers.iter().map(|answer| code * 100 + answer), 100);
+    }
+    let line = format!(
+        "{} steps, answers 0 to 12: {:?}; {} access questions, all there are for {} states, \
+         answers 0 to 31: {:?}, no access: {}, refused 2, 4, 12: {:?}",
+        seen.total("step"),
+        seen.each("step", 0..=12),
+        seen.total("access"),
+        seen.total("questioned states"),
+        seen.each("access", 0..=31),
+        seen.times("access", 255),
+        seen.each("access", [258, 260, 268]),
+    );
+    (line, seen)
+}
+
+/// Steps one after the other, each in the state that the one before it left, and access questions at the end.
+fn walk(start: State, steps: usize, chance: &mut Chance, seen: &mut Seen) {
+    let mut site = Site::of_state(start);
+    for _ in 0..steps {
+        let Some(state) = &site.state else { return };
+        let instruction = instruction_of_anyone(state, chance);
+        let Some(answer) = seen.compare(&Case::step(&site, instruction)) else {
+            return;
+        };
+        seen.demand(
+            answer.number != UNSOUND,
+            "every walk goes from one sound state to the next",
+        );
+        seen.count("code and answer", u32::from(instruction[0]) * 100 + answer.number);
+        if answer.number == 0 {
+            site = Site::of_bytes(answer.bytes);
+        }
+    }
+    (0..QUESTIONS).for_each(|_| one_question(&site, chance, seen));
+}
+
+/// About a listed area and a listed object.
+fn one_question(site: &Site, chance: &mut Chance, seen: &mut Seen) {
+    let Some(state) = &site.state else { return };
+    let (areas, objects) = (members(&state.areas), members(&state.objects));
+    if !areas.is_empty() && !objects.is_empty() {
+        seen.compare(&Case::access(site, chance.pick(&areas), chance.pick(&objects)));
+    }
+}
+
+/// One instruction and one access question about the same numbers.
+fn step_and_question(site: &Site, instruction: [u8; 4], seen: &mut Seen) {
+    seen.compare(&Case::step(site, instruction));
+    seen.compare(&Case::access(site, instruction[2], instruction[3]));
+}
+
+/// A state that is mostly unsound.
+fn turned_record(chance: &mut Chance, seen: &mut Seen) {
+    let shape = match chance.below(100) {
+        0..60 => Shape::Sparse,
+        60..75 => Shape::Ring,
+        75..87 => Shape::Chain,
+        87..99 => Shape::Medium,
+        _ => Shape::Dense,
+    };
+    let state = turned(&sound_state(shape, chance), chance);
+    let instruction = instruction_of_anyone(&state, chance);
+    step_and_question(&Site::of_state(state), instruction, seen);
+}
+
+/// A sound record that goes on for too long, or ends too early.
+fn missized_record(chance: &mut Chance, seen: &mut Seen) {
+    let state = sound_state(Shape::Sparse, chance);
+    let instruction = instruction_of_anyone(&state, chance);
+    let length = chance.pick(&OTHER_LENGTHS);
+    let record = reference::to_record(&state).into_iter().cycle().take(length).collect();
+    step_and_question(&Site::of_bytes(record), instruction, seen);
+}
+
+/// One record with each of its places turned in turn, and then with a byte above 1 in each.
+fn every_place(chance: &mut Chance, seen: &mut Seen) {
+    let shape = chance.pick(&[Shape::Sparse, Shape::Ring, Shape::Chain, Shape::Medium]);
+    let state = sound_state(shape, chance);
+    let record = reference::to_record(&state);
+    for place in 0..RECORD_BYTES {
+        for byte in [1 - record[place], 2 + chance.below(254) as u8] {
+            let mut other = record.clone();
+            other[place] = byte;
+            let instruction = instruction_of_anyone(&state, chance);
+            step_and_question(&Site::of_bytes(other), instruction, seen);
+        }
+    }
+}
+
+/// The access question for every area and object, and the first number beyond the limits.
+fn every_question(state: State, seen: &mut Seen) {
+    let site = Site::of_state(state);
+    seen.count("questioned states", 0);
+    for area in 0..=32 {
+        for object in 0..=64 {
+            seen.compare(&Case::access(&site, area, object));
+        }
+    }
+}

@@ -1,0 +1,261 @@
+//! A case as one line of text, and back: what `replay` takes.
+//!
+//! A list of numbers is `0-3,7`; a relation is `FIRST:SECONDS` for each first number, with `;` between; other bytes are
+//! hexadecimal, in pieces with `,` between, and `00*31` is a byte that comes 31 times. What is empty is `-`. The input
+//! of the program is all that stands behind its word and one space, with `\n` for byte 10 and `\xff` for a byte that is
+//! not printed.
+
+use crate::case::Case;
+use crate::site::Site;
+use reference::State;
+use std::borrow::Cow;
+use std::collections::{BTreeMap, BTreeSet};
+use std::fmt::{self, Display, Formatter};
+
+const LISTS: [&str; 3] = ["users", "areas", "objects"];
+const RELATIONS: [&str; 5] = ["owners", "definitions", "structure", "imports", "exports"];
+
+/// A run of equal bytes of at least this length is written as one.
+const SHORTEST_RUN: usize = 4;
+
+impl Display for Case<'_> {
+    fn fmt(&self, to: &mut Formatter) -> fmt::Result {
+        write!(to, "{} ", self.kind())?;
+        match self {
+            Case::Founding { buffer_len } => write!(to, "{buffer_len}"),
+            Case::Step { site, instruction } => write!(to, "{} {}", numbers_text(instruction, " "), site_text(site)),
+            Case::Access { site, area, object } => write!(to, "{area} {object} {}", site_text(site)),
+            Case::List { site, list } => {
+                let items: Vec<String> = list.iter().map(|instruction| numbers_text(instruction, ".")).collect();
+                write!(to, "{} {}", or_dash(items.join(",")), site_text(site))
+            }
+            Case::Read { file, buffer_len } => write!(to, "{buffer_len} {}", bytes_text(file)),
+            Case::Label { file, area } => write!(to, "{area} {}", bytes_text(file)),
+            Case::Mark { marks } => write!(to, "{marks}"),
+            Case::Program { input } => write!(to, "{}", input_text(input)),
+        }
+    }
+}
+
+fn or_dash(text: String) -> String {
+    if text.is_empty() {
+        return "-".to_string();
+    }
+    text
+}
+
+fn numbers_text(numbers: &[u8], between: &str) -> String {
+    numbers.iter().map(u8::to_string).collect::<Vec<_>>().join(between)
+}
+
+fn site_text(site: &Site) -> String {
+    match &site.state {
+        Some(state) => state_text(state),
+        None => format!("bytes={}", bytes_text(&site.record)),
+    }
+}
+
+pub fn state_text(state: &State) -> String {
+    let lists = [&state.users, &state.areas, &state.objects].map(list_text);
+    let relations = [
+        &state.owners,
+        &state.definitions,
+        &state.structure,
+        &state.imports,
+        &state.exports,
+    ]
+    .map(relation_text);
+    let names = LISTS.iter().chain(&RELATIONS);
+    let parts = names.zip(lists.into_iter().chain(relations));
+    parts
+        .map(|(name, text)| format!("{name}={text}"))
+        .collect::<Vec<_>>()
+        .join(" ")
+}
+
+fn list_text(list: &BTreeSet<u8>) -> String {
+    let mut ranges: Vec<(u8, u8)> = Vec::new();
+    for &number in list {
+        match ranges.last_mut() {
+            Some((_, last)) if *last + 1 == number => *last = number,
+            _ => ranges.push((number, number)),
+        }
+    }
+    let text = |&(first, last): &(u8, u8)| {
+        if first == last {
+            first.to_string()
+        } else {
+            format!("{first}-{last}")
+        }
+    };
+    or_dash(ranges.iter().map(text).collect::<Vec<_>>().join(","))
+}
+
+fn relation_text(pairs: &BTreeSet<(u8, u8)>) -> String {
+    let mut rows: BTreeMap<u8, BTreeSet<u8>> = BTreeMap::new();
+    for &(first, second) in pairs {
+        rows.entry(first).or_default().insert(second);
+    }
+    let row_text = |(first, seconds): (&u8, &BTreeSet<u8>)| format!("{first}:{}", list_text(seconds));
+    or_dash(rows.iter().map(row_text).collect::<Vec<_>>().join(";"))
+}
+
+fn bytes_text(bytes: &[u8]) -> String {
+    let mut pieces: Vec<String> = vec![String::new()];
+    for run in bytes.chunk_by(|one, next| one == next) {
+        let hex = format!("{:02x}", run[0]);
+        if run.len() < SHORTEST_RUN {
+            pieces
+                .last_mut()
+                .expect("there is a piece")
+                .push_str(&hex.repeat(run.len()));
+        } else {
+            pieces.push(format!("{hex}*{}", run.len()));
+            pieces.push(String::new());
+        }
+    }
+    pieces.retain(|piece| !piece.is_empty());
+    or_dash(pieces.join(","))
+}
+
+fn input_text(input: &[u8]) -> String {
+    let byte_text = |&byte: &u8| match byte {
+        b'\n' => "\\n".to_string(),
+        b'\\' | b'\'' => format!("\\x{byte:02x}"),
+        32..=126 => char::from(byte).to_string(),
+        _ => format!("\\x{byte:02x}"),
+    };
+    input.iter().map(byte_text).collect()
+}
+
+/// The case that the text stands for.
+pub fn parse(text: &str) -> Result<Case<'static>, String> {
+    if let Some(input) = text.strip_prefix("program ") {
+        let input = Cow::Owned(parse_input(input)?);
+        return Ok(Case::Program { input });
+    }
+    let words: Vec<&str> = text.split_whitespace().collect();
+    let case = match words[..] {
+        ["founding", len] => Case::Founding {
+            buffer_len: number(len)?,
+        },
+        ["mark", marks] => Case::Mark { marks: number(marks)? },
+        ["step", code, activator, a, b, ref site @ ..] => Case::Step {
+            site: Cow::Owned(parse_site(site)?),
+            instruction: [number(code)?, number(activator)?, number(a)?, number(b)?],
+        },
+        ["access", area, object, ref site @ ..] => Case::Access {
+            site: Cow::Owned(parse_site(site)?),
+            area: number(area)?,
+            object: number(object)?,
+        },
+        ["list", list, ref site @ ..] => Case::List {
+            site: Cow::Owned(parse_site(site)?),
+            list: Cow::Owned(parse_instructions(list)?),
+        },
+        ["read", len, bytes] => Case::Read {
+            file: Cow::Owned(parse_bytes(bytes)?),
+            buffer_len: number(len)?,
+        },
+        ["label", area, bytes] => Case::Label {
+            file: Cow::Owned(parse_bytes(bytes)?),
+            area: number(area)?,
+        },
+        _ => return Err(format!("no case begins and goes on like this: {:?}", words.first())),
+    };
+    Ok(case)
+}
+
+fn number<T: std::str::FromStr>(text: &str) -> Result<T, String> {
+    text.parse()
+        .map_err(|_| format!("{text:?} is no number, or out of range"))
+}
+
+/// The items of a text with `between` between them; none for `-`.
+fn items<'a>(text: &'a str, between: &'a str) -> impl Iterator<Item = &'a str> {
+    text.split(between).filter(move |_| text != "-")
+}
+
+fn parse_instructions(text: &str) -> Result<Vec<[u8; 4]>, String> {
+    let instruction = |item: &str| {
+        let numbers: Vec<u8> = item.split('.').map(number).collect::<Result<_, String>>()?;
+        numbers.try_into().map_err(|_| format!("{item:?} has not four numbers"))
+    };
+    items(text, ",").map(instruction).collect()
+}
+
+fn parse_site(words: &[&str]) -> Result<Site, String> {
+    let mut parts: BTreeMap<&str, &str> = BTreeMap::new();
+    for word in words {
+        let (name, text) = word.split_once('=').ok_or(format!("{word:?} has no '='"))?;
+        parts.insert(name, text);
+    }
+    if let Some(bytes) = parts.get("bytes") {
+        return Ok(Site::of_bytes(parse_bytes(bytes)?));
+    }
+    let part = |name: &str| parts.get(name).copied().ok_or(format!("{name} is missing"));
+    let list = |name: &str| parse_list(part(name)?);
+    let relation = |name: &str| parse_relation(part(name)?);
+    Ok(Site::of_state(State {
+        users: list("users")?,
+        areas: list("areas")?,
+        objects: list("objects")?,
+        owners: relation("owners")?,
+        definitions: relation("definitions")?,
+        structure: relation("structure")?,
+        imports: relation("imports")?,
+        exports: relation("exports")?,
+    }))
+}
+
+fn parse_list(text: &str) -> Result<BTreeSet<u8>, String> {
+    let mut list = BTreeSet::new();
+    for range in items(text, ",") {
+        let (first, last) = range.split_once('-').unwrap_or((range, range));
+        list.extend(number::<u8>(first)?..=number(last)?);
+    }
+    Ok(list)
+}
+
+fn parse_relation(text: &str) -> Result<BTreeSet<(u8, u8)>, String> {
+    let mut pairs = BTreeSet::new();
+    for row in items(text, ";") {
+        let (first, seconds) = row.split_once(':').ok_or(format!("{row:?} has no ':'"))?;
+        let first = number(first)?;
+        pairs.extend(parse_list(seconds)?.into_iter().map(|second| (first, second)));
+    }
+    Ok(pairs)
+}
+
+fn parse_bytes(text: &str) -> Result<Vec<u8>, String> {
+    let mut bytes = Vec::new();
+    for piece in items(text, ",") {
+        let (hex, times) = piece.split_once('*').unwrap_or((piece, "1"));
+        bytes.extend(parse_hex(hex)?.repeat(number(times)?));
+    }
+    Ok(bytes)
+}
+
+fn parse_input(text: &str) -> Result<Vec<u8>, String> {
+    let mut pieces = text.split('\\');
+    let mut input = pieces.next().unwrap_or_default().as_bytes().to_vec();
+    for piece in pieces {
+        let (byte, rest) = match piece.as_bytes() {
+            [b'n', ..] => (b'\n', &piece[1..]),
+            [b'x', _, _, ..] if piece.is_ascii() => (parse_hex(&piece[1..3])?[0], &piece[3..]),
+            _ => return Err(format!("{piece:?} stands behind a backslash")),
+        };
+        input.push(byte);
+        input.extend(rest.bytes());
+    }
+    Ok(input)
+}
+
+fn parse_hex(text: &str) -> Result<Vec<u8>, String> {
+    let digits: Vec<char> = text.chars().collect();
+    let byte = |two: &[char]| u8::from_str_radix(&String::from_iter(two), 16);
+    digits
+        .chunks(2)
+        .map(|two| byte(two).map_err(|_| format!("{two:?} is not hexadecimal")))
+        .collect()
+}

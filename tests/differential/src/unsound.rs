@@ -1,0 +1,56 @@
+//! States that are mostly unsound, and often by one place only.
+
+use crate::numbers::{members, pick_or, Pairs};
+use chance::Chance;
+use reference::State;
+use std::collections::BTreeSet;
+
+/// The state with up to three places turned: what was listed is not, or the other way round; so with pairs.
+pub fn turned(state: &State, chance: &mut Chance) -> State {
+    let mut other = state.clone();
+    for _ in 0..1 + chance.below(3) {
+        turn(&mut other, chance);
+    }
+    other
+}
+
+fn turn(state: &mut State, chance: &mut Chance) {
+    let user = pick_or(&members(&state.users), 32, 8, chance);
+    let area = pick_or(&members(&state.areas), 32, 8, chance);
+    let other_area = pick_or(&members(&state.areas), 32, 8, chance);
+    let object = pick_or(&members(&state.objects), 64, 8, chance);
+    match chance.below(12) {
+        0 => toggle(&mut state.users, user),
+        1 => toggle(&mut state.areas, area),
+        2 => toggle(&mut state.objects, object),
+        3 => toggle(&mut state.owners, (user, area)),
+        4 => toggle(&mut state.definitions, (object, area)),
+        5 => toggle(&mut state.structure, (area, other_area)),
+        6 => toggle(&mut state.imports, (object, area)),
+        7 => toggle(&mut state.exports, (object, area)),
+        8 => remove_one(&mut state.definitions, chance),
+        9 => remove_one(&mut state.structure, chance),
+        10 => remove_one(&mut state.exports, chance),
+        _ => vouch(state, object, [area, other_area]),
+    }
+}
+
+fn toggle<T: Copy + Ord>(set: &mut BTreeSet<T>, item: T) {
+    if !set.remove(&item) {
+        set.insert(item);
+    }
+}
+
+fn remove_one(pairs: &mut Pairs, chance: &mut Chance) {
+    let all: Vec<(u8, u8)> = pairs.iter().copied().collect();
+    if !all.is_empty() {
+        pairs.remove(&chance.pick(&all));
+    }
+}
+
+/// Two areas in a cycle that both import and export the object, whether a chain leads to them or not.
+fn vouch(state: &mut State, object: u8, [one, other]: [u8; 2]) {
+    state.structure.extend([(one, other), (other, one)]);
+    state.imports.extend([(object, one), (object, other)]);
+    state.exports.extend([(object, one), (object, other)]);
+}
