@@ -7,6 +7,7 @@
  *
  * You check nothing beforehand. Every function takes any bytes, any numbers and any length, and gives one
  * answer or one refusal number. What you must see to is C's own part:
+ *   - numbers have 8 bits, and C turns 256 into 0 before it arrives here: test a wider number first;
  *   - a pointer and its length belong together: so many bytes may be read there, and written if the
  *     pointer is not const. With the length 0 the pointer may be NULL;
  *   - the buffers of one call do not overlap;
@@ -18,7 +19,9 @@
  * a number is listed or not. A user owns areas, an area defines objects, and an area may lie in others.
  * An object moves one step outward, from an area that exports it to an area that this one lies in; or one
  * step inward, from an area to one that lies in it and imports the object. An area has access to an object
- * if it defines it, or if a chain of steps leads there from the area that does.
+ * if it defines it, or if a chain of steps leads there from the area that does; then it sees the object. It
+ * lends an object by exporting it, and borrows one by importing it. Areas may lie in each other in a ring,
+ * or in themselves, and an area may import what it defines.
  * A state is sound if whatever it names is listed, each listed user owns an area, each listed area has an
  * owner, each listed object is defined in exactly one area, there is an area, and each area has access to
  * what it imports or exports. From a sound state every step leads to a sound one.
@@ -62,8 +65,9 @@ enum {
  * disk, and between programs, keep site files. A record has no seal: whoever can write to it can make any
  * other state of it.
  *
- * These read a record: 1 if the number is listed or the pair is there, else 0, also for a number out of
- * range. They may evaluate an argument twice.
+ * These read a record, of which all bytes must be there: 1 if the number is listed or the pair is there,
+ * else 0, also for a number out of range. They may evaluate an argument twice. A pair is written as in the
+ * table: the user or the object first, then the area.
  */
 #define PANELRIGHTS_HAS_USER(state, user) PANELRIGHTS_LISTED_(state, 0, PANELRIGHTS_USERS, user)
 #define PANELRIGHTS_HAS_AREA(state, area) PANELRIGHTS_LISTED_(state, 32, PANELRIGHTS_AREAS, area)
@@ -90,7 +94,8 @@ enum panelrights_code {
     PANELRIGHTS_LIST_AREA = 1,         /* list new area a, owned by the activator; b is 0 */
     PANELRIGHTS_UNLIST_AREA = 2,       /* unlist area a, and the activator if he then owns none; b is 0 */
     PANELRIGHTS_ADD_OWNER = 3,         /* user b becomes an owner of area a, and is listed if he was not */
-    PANELRIGHTS_REMOVE_OWNER = 4,      /* user b no longer owns area a; he is unlisted if he then owns none */
+    PANELRIGHTS_REMOVE_OWNER = 4,      /* user b no longer owns area a; he is unlisted if he then owns none.
+                                          Any owner of a may do so, also with himself */
     PANELRIGHTS_ADD_STRUCTURE = 5,     /* area a lies in area b */
     PANELRIGHTS_REMOVE_STRUCTURE = 6,  /* area a no longer lies in area b */
     PANELRIGHTS_DEFINE = 7,            /* object b is listed, and defined in area a */
@@ -105,6 +110,10 @@ enum panelrights_code {
  * The refusals. Where more than one applies you get the first in the order of the checks: for an
  * instruction 12, then 1 to 11 upwards; for the access question 12, 2, 4; for a site file 31, then the
  * lowest number. A later version may have more numbers: keep a default case.
+ *
+ * An instruction can be refused as 12, 1, 2 or 3, and besides by its code as
+ *   1: 6           2: 4 5 8 9     3: 4 5 6           4: 4 5 7 8     5: 4 5 6           6: 4 5 7 11
+ *   7: 4 5 6       8: 4 5 7 11    9 and 11: 4 5 6 10                 10 and 12: 4 5 7 11
  */
 enum panelrights_refusal {
     PANELRIGHTS_OK = 0, /* accepted */
@@ -112,14 +121,17 @@ enum panelrights_refusal {
     PANELRIGHTS_UNKNOWN_CODE = 1,       /* the code is 0 or above 12 */
     PANELRIGHTS_OUT_OF_RANGE = 2,       /* a number above its limit, or b not 0 for codes 1 and 2 */
     PANELRIGHTS_ACTIVATOR_UNLISTED = 3, /* the activator is not listed */
-    PANELRIGHTS_NOT_LISTED = 4,         /* the area, user or object that is named is not listed */
-    PANELRIGHTS_NOT_OWNER = 5,          /* the activator does not own a; code 5: a and b; code 6: a or b */
-    PANELRIGHTS_ALREADY_THERE = 6,      /* an add of what is there; also an object of another area */
+    PANELRIGHTS_NOT_LISTED = 4,         /* area a (codes 2 to 12) or b (4 to 6, 8 to 12) is not listed */
+    PANELRIGHTS_NOT_OWNER = 5,          /* the activator does not own area a (codes 2 to 12); for code 5 he must
+                                           own both areas, for code 6 one of them is enough */
+    PANELRIGHTS_ALREADY_THERE = 6,      /* an add of what is there; code 7: b is listed, here or elsewhere */
     PANELRIGHTS_NOT_THERE = 7,          /* a remove of a pair that is not there */
-    PANELRIGHTS_LAST_ONE = 8,           /* the sole owner of an area, or the only listed area, would go */
-    PANELRIGHTS_AREA_IN_USE = 9,        /* the area has another owner or an object, or stands in a pair */
+    PANELRIGHTS_LAST_ONE = 8,           /* code 4: b is the sole owner of a; code 2: a is the only listed area */
+    PANELRIGHTS_AREA_IN_USE = 9,        /* code 2: a has another owner or an object, lies in an area or has one
+                                           in it, or imports or exports an object */
     PANELRIGHTS_WOULD_LACK_ACCESS = 10, /* even with the new import or export the area lacks access */
-    PANELRIGHTS_WOULD_LOSE_ACCESS = 11, /* an area would lack access to what it imports or exports */
+    PANELRIGHTS_WOULD_LOSE_ACCESS = 11, /* an area would lack access to what it imports or exports; code 8: so
+                                           long as any area, the definer too, imports or exports b */
     PANELRIGHTS_UNSOUND_STATE = 12,     /* the bytes are no record, or the state is not sound */
 
     PANELRIGHTS_FILE_TOO_SHORT = 21,    /* under 28 bytes */
@@ -156,9 +168,10 @@ uint8_t panelrights_step(uint8_t *state, size_t state_len, uint8_t code, uint8_t
 enum { PANELRIGHTS_NO_ACCESS = 255, PANELRIGHTS_ACCESS_REFUSED = 256 };
 
 /*
- * In how many steps does the object reach the area? The number of steps in a shortest chain from the area
- * that defines it: 0 for that area itself, and never above 31. 255 for no access; 256 + n for refusal n,
- * which is 12, 2 or 4. Keep the answer in 16 bits: in 8, refusal 12 would read as 12 steps.
+ * In how many steps does the object reach the area? (Here the area comes first.) The number of steps in a
+ * shortest chain from the area that defines it: 0 for that area itself, and never above 31. 255 for no
+ * access; 256 + n for refusal n, which is 12, 2 or 4. Keep the answer in 16 bits: in 8, refusal 12 would
+ * read as 12 steps.
  */
 uint16_t panelrights_access(const uint8_t *state, size_t state_len, uint8_t area, uint8_t object);
 
@@ -166,14 +179,16 @@ uint16_t panelrights_access(const uint8_t *state, size_t state_len, uint8_t area
  * Reads a site file. 0, and the record is that of the file's state; or the refusal, 21 to 29, and the
  * record is that of the founding state: what was in the buffer is gone, so read into a second one if you
  * need it. 31 and no byte written, whatever the file has, if state_len is not panelrights_state_bytes().
+ * No accepted file is longer than 13,468 bytes. The library reads site files and does not write them.
  */
 uint8_t panelrights_read_file(const uint8_t *file, size_t file_len, uint8_t *state, size_t state_len);
 
 /*
  * Where the text of the area's label stands in the file: offset * 65536 + length. 0 if there is none: the
  * file is refused, or the area has no label (any number above 31 too). The text has 1 to 30 bytes, each 32
- * to 126, and no byte 0 behind it that you may rely on. Labels are in no record: keep the file's bytes for
- * them. Each call checks the whole file.
+ * to 126, and no byte 0 behind it that you may rely on. Labels are the file's and not the state's: keep its
+ * bytes for them, and show no label where a step has changed what the area is. Each call checks the whole
+ * file.
  */
 uint32_t panelrights_label(const uint8_t *file, size_t file_len, uint8_t area);
 

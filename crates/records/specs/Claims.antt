@@ -20,18 +20,18 @@ PairByte =
     → getD (bytesOf s) (pairStart r + (i * width + j)) 0 ≡ bit (related s r i j)
 
 -- ---- records and states, one to one
--- the bytes of a state are a record
+-- a state's bytes are a record
 abbrev pub BytesAreRecord : Type 0
 BytesAreRecord = (s : State) → Shaped s → T (isRecord (bytesOf s))
 
 abbrev pub BytesLength : Type 0
 BytesLength = (s : State) → length (bytesOf s) ≡ recordSize
 
--- its own
+-- the record's state is the state that it was made of
 abbrev pub StateOfBytes : Type 0
 StateOfBytes = (s : State) → Shaped s → stateOf (bytesOf s) ≡ s
 
--- and a record is that of its state
+-- and the bytes of a record's state are the record
 abbrev pub BytesOfState : Type 0
 BytesOfState = (bytes : List ℕ) → T (isRecord bytes) → bytesOf (stateOf bytes) ≡ bytes
 
