@@ -8,6 +8,7 @@ trap 'rm -f "$report"' EXIT
 rt ci | tee "$report"
 make --no-print-directory lib
 tests/interface.sh
+tests/reference.sh
 tests/differential.sh
 tests/panelrights.sh
 tail -n 1 "$report"
