@@ -16,7 +16,7 @@ run:
 
 lib:
 	@mkdir -p target/lib
-	@rt staticlib capi >target/staticlib.log || { cat target/staticlib.log; exit 1; }
+	@rt staticlib capi >target/staticlib.log 2>&1 || { cat target/staticlib.log; exit 1; }
 	@cmp -s target/staticlib/libcapi.a target/lib/libpanelrights.a || cp target/staticlib/libcapi.a target/lib/libpanelrights.a
 
 install: lib
@@ -39,7 +39,7 @@ test:
 	@tests/gate.sh
 
 bench: lib
-	@rt check panelrights >target/panelrights.log || { cat target/panelrights.log; exit 1; }
+	@rt check panelrights >target/panelrights.log 2>&1 || { cat target/panelrights.log; exit 1; }
 	@cd bench && CARGO_TARGET_DIR=../target/cargo cargo run --quiet --locked --release
 
 clean:
