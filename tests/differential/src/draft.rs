@@ -1,5 +1,6 @@
 //! A site file before it is bytes: its six tables, in the file's order, right or wrong.
 
+use crate::numbers::relations;
 use chance::Chance;
 use reference::{Labels, State};
 
@@ -26,14 +27,7 @@ pub struct Draft {
 
 impl Draft {
     pub fn new(state: &State, labels: &Labels) -> Draft {
-        let relations = [
-            &state.owners,
-            &state.definitions,
-            &state.structure,
-            &state.imports,
-            &state.exports,
-        ];
-        let pairs = relations.map(|pairs| pairs.iter().map(|&(first, second)| vec![first, second]).collect());
+        let pairs = relations(state).map(|pairs| pairs.iter().map(|&(first, second)| vec![first, second]).collect());
         let [owners, definitions, structure, imports, exports] = pairs;
         let labels = labels.iter().map(|(&area, text)| label_entry(area, text)).collect();
         Draft {

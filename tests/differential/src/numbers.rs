@@ -1,9 +1,21 @@
-//! Random choices among the numbers of users, areas and objects.
+//! The numbers and pairs of a state, and random choices among them.
 
 use chance::Chance;
+use reference::State;
 use std::collections::BTreeSet;
 
 pub type Pairs = BTreeSet<(u8, u8)>;
+
+/// The five relations, in the order of the record and of the site file.
+pub fn relations(state: &State) -> [&Pairs; 5] {
+    [
+        &state.owners,
+        &state.definitions,
+        &state.structure,
+        &state.imports,
+        &state.exports,
+    ]
+}
 
 /// So many different numbers below the limit, in any order.
 pub fn some_of(limit: usize, count: usize, chance: &mut Chance) -> Vec<u8> {

@@ -6,6 +6,7 @@
 //! not printed.
 
 use crate::case::Case;
+use crate::numbers::relations;
 use crate::site::Site;
 use reference::State;
 use std::borrow::Cow;
@@ -57,14 +58,7 @@ fn site_text(site: &Site) -> String {
 
 pub fn state_text(state: &State) -> String {
     let lists = [&state.users, &state.areas, &state.objects].map(list_text);
-    let relations = [
-        &state.owners,
-        &state.definitions,
-        &state.structure,
-        &state.imports,
-        &state.exports,
-    ]
-    .map(relation_text);
+    let relations = relations(state).map(relation_text);
     let names = LISTS.iter().chain(&RELATIONS);
     let parts = names.zip(lists.into_iter().chain(relations));
     parts
