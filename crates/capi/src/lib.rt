@@ -4,7 +4,7 @@ ghost use Rattle.records.specs.Record.{recordSize, numberFor};
 ghost use Rattle.instructions.specs.Instructions.{fourBytes};
 ghost use Rattle.marks.specs.Marks.{lowest};
 ghost use Rattle.access.specs.Answer.{number};
-ghost use Rattle.capi.specs.Interface.{foundingBuffer, stepNumber, stepBuffer, answerOf, accessNumber, fileNumber, fileBuffer, labelNumber};
+ghost use Rattle.interface.specs.Interface.{foundingBuffer, stepNumber, stepBuffer, answerOf, accessNumber, fileNumber, fileBuffer, labelNumber};
 use access::Answer;
 use machine::Reply;
 use state::State;
@@ -23,7 +23,7 @@ pub extern "C" fn panelrights_founding(state: &mut [u8]) -> u8
     ensures number { λ r. ⌜ r ≡ numberFor (now (state .entry)) ⌝ }
     ensures buffer { λ _. ⌜ now (state .exit) ≡ foundingBuffer (now (state .entry)) ⌝ }
 {
-    records::write(State::founding(), state)
+    record_writer::write(State::founding(), state)
 }
 
 // Obeys one instruction: 0 and the state after it in place, or the refusal and no byte changed. Bytes that are no record are the state of nothing, which is not sound: 12.
@@ -32,13 +32,13 @@ pub extern "C" fn panelrights_step(state: &mut [u8], code: u8, activator: u8, a:
     ensures number { λ r. ⌜ r ≡ stepNumber (now (state .entry)) (fourBytes code activator a b) ⌝ }
     ensures buffer { λ _. ⌜ now (state .exit) ≡ stepBuffer (now (state .entry)) (fourBytes code activator a b) ⌝ }
 {
-    let outcome = machine::step(records::state_of(state), code, activator, a, b);
+    let outcome = machine::step(record_reader::state_of(state), code, activator, a, b);
     let refusal = outcome.refusal;
     if refusal != 0 {
         return refusal;
     }
     let next = outcome.state;
-    records::write(next, state)
+    record_writer::write(next, state)
 }
 
 // The number that stands for an answer: the steps, or 255 for no access.
@@ -66,7 +66,7 @@ fn answer_of(reply: Reply) -> u16
 pub extern "C" fn panelrights_access(state: &[u8], area: u8, object: u8) -> u16
     ensures { λ r. ⌜ r ≡ accessNumber (now (state .entry)) area object ⌝ }
 {
-    answer_of(machine::ask(records::state_of(state), area, object))
+    answer_of(machine::ask(record_reader::state_of(state), area, object))
 }
 
 // Reads a site file: 0 and its state, or 21 to 29 and the founding state; 31 and no byte written, if the state's buffer has another length than a record.
@@ -77,7 +77,7 @@ pub extern "C" fn panelrights_read_file<'a>(file: &'a [u8], state: &'a mut [u8])
 {
     let reading = site_file::read(file);
     let found = reading.state;
-    let missized = records::write(found, state);
+    let missized = record_writer::write(found, state);
     if missized != 0 {
         return missized;
     }
@@ -89,7 +89,7 @@ pub extern "C" fn panelrights_read_file<'a>(file: &'a [u8], state: &'a mut [u8])
 pub extern "C" fn panelrights_label(file: &[u8], area: u8) -> u32
     ensures { λ r. ⌜ r ≡ labelNumber (now (file .entry)) area ⌝ }
 {
-    let place = site_file::label_place(file, area);
+    let place = label_finder::label_place(file, area);
     place.at as u32 * 65536 + place.length as u32
 }
 

@@ -1,4 +1,9 @@
-// Asks the access question of document 01's session and of the traps around it, and prints each answer.
+// What is run of the library's functions that no C program reaches. Here: the access question of document 01's session
+// and of the traps around it, of relations that need not be a sound state's. In the modules: a transcript in buffers of
+// several lengths (buffers), and the label finder's part of a file (labels).
+mod buffers;
+mod labels;
+
 use access::Answer;
 use libc::STDOUT_FILENO;
 use state::State;
@@ -122,19 +127,32 @@ fn print_number(n: u8) {
     io::print_decimal(STDOUT_FILENO, n as u64);
 }
 
-fn title(number: u8) {
+fn early_title(number: u8) {
     match number {
         1 => print(b"line 6 of the session\n"),
         2 => print(b"line 8 of the session\n"),
         3 => print(b"a cycle that vouches for itself\n"),
         4 => print(b"the cycle tied to the defining area\n"),
-        5 => print(b"export does not go inward, import does\n"),
+        _ => print(b"export does not go inward, import does\n"),
+    }
+}
+
+fn late_title(number: u8) {
+    match number {
         6 => print(b"import does not go outward, export does\n"),
         7 => print(b"a chain of 31 steps, both ways\n"),
         8 => print(b"the chain cut far away, and a shorter way\n"),
         9 => print(b"an area in itself\n"),
-        10 => print(b"numbers past the limits\n"),
-        _ => {}
+        _ => print(b"numbers past the limits\n"),
+    }
+}
+
+// The heading of case 1 to 10.
+fn title(number: u8) {
+    if number <= 5 {
+        early_title(number);
+    } else {
+        late_title(number);
     }
 }
 
@@ -223,4 +241,6 @@ fn run_cases() {
 
 fn main() {
     run_cases();
+    buffers::run();
+    labels::run();
 }

@@ -1,2 +1,2 @@
--- Arms serves every `match` on an instruction, here and above.
+-- Arms serves the functions of `refusals` that match on an instruction.
 pub mod Arms

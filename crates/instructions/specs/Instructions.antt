@@ -36,7 +36,7 @@ pub data Lookup : Type 0 where
   lookA : Lookup
   lookBoth : Kind → Lookup
 
--- "activator must own": "nothing", "a", "both", and for the cutting of a structure pair "either" (machine, mayCut)
+-- "activator must own": "nothing", "a", "both", and for the cutting of a structure pair "either" (refusals, mayCut)
 pub data MustOwn : Type 0 where
   ownsNothing : MustOwn
   ownsA : MustOwn

@@ -1,4 +1,4 @@
--- What a reader of this crate believes: the twelve instructions (Instructions), which of them four bytes fit (Decode), and what each changes (Successor).
+-- What a reader of this crate believes: the twelve instructions (Instructions), and which of them four bytes fit
+-- (Decode).
 pub mod Instructions
 pub mod Decode
-pub mod Successor

@@ -12,10 +12,10 @@ use Rattle.state.proofs.Bools.{fails}
 use Rattle.soundness.specs.Tests.{isSound}
 use Rattle.instructions.specs.Instructions.{Bytes, row, Picked, unknown, instruction, instructionOf}
 use Rattle.instructions.specs.Decode.{fits, inRange, decodedAs, decodeOf, decodedNumber}
-use Rattle.instructions.specs.Successor.{successor, successorOf}
+use Rattle.successors.specs.Successor.{successor, successorOf}
 use Rattle.state.specs.Checks.{firstMet}
-use Rattle.machine.specs.Refusals.{checks, decoding, refusals}
-use Rattle.machine.specs.Parts.{early, late}
+use Rattle.refusals.specs.Refusals.{checks, decoding, refusals}
+use Rattle.refusals.specs.Parts.{early, late}
 use Rattle.machine.specs.Step.{decided, refusalOf, stepOf}
 use Rattle.instructions.specs.declared.Instruction.{Instruction}
 use Rattle.instructions.specs.declared.Instruction.the-variants.{ListArea}
@@ -23,7 +23,7 @@ use Rattle.instructions.specs.declared.Decoded.{Decoded}
 use Rattle.instructions.specs.declared.Decoded.the-variants.{Fits, NoCode, OutOfRange}
 use Rattle.machine.specs.declared.Outcome.{Outcome}
 use Rattle.state.proofs.Checks.{met, passed}
-use Rattle.machine.proofs.Late.{checks-in-two}
+use Rattle.refusals.proofs.Late.{checks-in-two}
 
 -- the instruction that was decoded; any, if there is none
 fitting : Decoded → Instruction

@@ -10,9 +10,9 @@ use Rattle.state.specs.declared.State.{State}
 use Rattle.state.proofs.Checks.{eachNumber, first-meets, met}
 use Rattle.state.specs.Checks.{_when_, firstMet}
 use Rattle.soundness.specs.Tests.{isSound}
-use Rattle.instructions.specs.Successor.{successorOf}
+use Rattle.successors.specs.Successor.{successorOf}
 use Rattle.instructions.specs.Instructions.{Bytes, Picked, unknown, instruction, instructionOf}
-use Rattle.machine.specs.Refusals.{decoding, refusals}
+use Rattle.refusals.specs.Refusals.{decoding, refusals}
 use Rattle.machine.specs.Step.{refusalOf, stepOf, run, replied, replyOf}
 use Rattle.machine.specs.Claims
 

@@ -12,9 +12,9 @@ use Rattle.access.specs.Claims.{Meaning}
 use Rattle.soundness.specs.Tests.{isSound}
 use Rattle.instructions.specs.Instructions.{Bytes, numberOf, lookBoth, instructionOf}
 use Rattle.instructions.specs.Decode.{fits}
-use Rattle.instructions.specs.Successor.{successorOf}
+use Rattle.successors.specs.Successor.{successorOf}
 use Rattle.state.specs.Checks.{Check, _when_, firstMet}
-use Rattle.machine.specs.Refusals.{missing, refusals}
+use Rattle.refusals.specs.Refusals.{missing, refusals}
 use Rattle.machine.specs.declared.Outcome.{Outcome}
 use Rattle.machine.specs.declared.Reply.{Reply}
 use Rattle.machine.specs.declared.Reply.the-variants.{Refused, Answered}

@@ -1,18 +1,14 @@
 // The machine: any four bytes with any record get one successor state or one refusal number.
 ghost use mathlib.Core.Path.{_≡_};
-ghost use mathlib.Core.Bool.{_&&_, not};
-ghost use Rattle.state.specs.Site.{recordOf};
+ghost use mathlib.Core.Bool.{_&&_};
+ghost use Rattle.state.specs.Site.{area, object, listed};
 ghost use Rattle.access.specs.Lending.{lending};
-ghost use Rattle.access.specs.Answer.{access};
-ghost use Rattle.instructions.specs.Instructions.{fourBytes, row};
-ghost use Rattle.instructions.specs.declared.Instruction.the-variants.{UnlistArea};
-ghost use Rattle.state.specs.Checks.{firstMet};
-ghost use Rattle.machine.specs.Refusals.{missingBy, entitledBy, presentBy, absentBy};
-ghost use Rattle.machine.specs.Parts.{early, late, namesArea};
+ghost use Rattle.access.specs.Answer.{answer};
+ghost use Rattle.access.specs.Claims.{Meaning};
+ghost use Rattle.instructions.specs.Instructions.{fourBytes};
 ghost use Rattle.machine.specs.Step.{outcomeOf, stepOf, replyOf, Replied};
 use access::Answer;
 use instructions::Decoded;
-use instructions::Instruction;
 use state::State;
 
 // The refusal, 0 for none, and the state after the instruction.
@@ -27,231 +23,12 @@ pub enum Reply {
     Answered(Answer),
 }
 
-// Refusal 4: something that the instruction names is not listed. `area` says that area a is; `user`, `outer` and `object` that b is too, as a user, an area or
-// an object.
-fn is_missing(x: Instruction, area: bool, user: bool, outer: bool, object: bool) -> bool
-    ensures { λ r. ⌜ r ≡ missingBy (row x .lookup) area user outer object ⌝ }
+// In how many steps has area a access to object b?
+fn steps(s: State, a: u8, b: u8) -> Answer
+    ensures equation { λ r. ⌜ r ≡ answer (lending s b) a ⌝ }
+    ensures meaning { λ r. ⌜ Meaning (lending s b) a r ⌝ }
 {
-    match x {
-        Instruction::ListArea => false,
-        Instruction::UnlistArea => !area,
-        Instruction::AddOwner => !area,
-        Instruction::RemoveOwner => !user,
-        Instruction::AddStructure => !outer,
-        Instruction::RemoveStructure => !outer,
-        Instruction::Define => !area,
-        Instruction::RemoveDefinition => !object,
-        Instruction::AddImport => !object,
-        Instruction::RemoveImport => !object,
-        Instruction::AddExport => !object,
-        Instruction::RemoveExport => !object,
-    }
-}
-
-// Has the activator the ownership that the instruction asks for? He owns area a, or both areas, or may cut the pair.
-fn is_entitled(x: Instruction, own: bool, both: bool, cut: bool) -> bool
-    ensures { λ r. ⌜ r ≡ entitledBy (row x .mustOwn) own both cut ⌝ }
-{
-    match x {
-        Instruction::ListArea => true,
-        Instruction::UnlistArea => own,
-        Instruction::AddOwner => own,
-        Instruction::RemoveOwner => own,
-        Instruction::AddStructure => both,
-        Instruction::RemoveStructure => cut,
-        Instruction::Define => own,
-        Instruction::RemoveDefinition => own,
-        Instruction::AddImport => own,
-        Instruction::RemoveImport => own,
-        Instruction::AddExport => own,
-        Instruction::RemoveExport => own,
-    }
-}
-
-// Refusal 6: an add of what is there.
-fn is_repeated(
-    x: Instruction,
-    area: bool,
-    object: bool,
-    owned: bool,
-    inside: bool,
-    imported: bool,
-    exported: bool,
-) -> bool
-    ensures { λ r. ⌜ r ≡ (row x .adds && presentBy (row x .target) area object owned inside imported exported) ⌝ }
-{
-    match x {
-        Instruction::ListArea => area,
-        Instruction::UnlistArea => false,
-        Instruction::AddOwner => owned,
-        Instruction::RemoveOwner => false,
-        Instruction::AddStructure => inside,
-        Instruction::RemoveStructure => false,
-        Instruction::Define => object,
-        Instruction::RemoveDefinition => false,
-        Instruction::AddImport => imported,
-        Instruction::RemoveImport => false,
-        Instruction::AddExport => exported,
-        Instruction::RemoveExport => false,
-    }
-}
-
-// Refusal 7: a remove of a pair that is not there.
-fn is_absent(
-    x: Instruction,
-    owned: bool,
-    defined: bool,
-    inside: bool,
-    imported: bool,
-    exported: bool,
-) -> bool
-    ensures { λ r. ⌜ r ≡ (not (row x .adds) && absentBy (row x .target) owned defined inside imported exported) ⌝ }
-{
-    match x {
-        Instruction::ListArea => false,
-        Instruction::UnlistArea => false,
-        Instruction::AddOwner => false,
-        Instruction::RemoveOwner => !owned,
-        Instruction::AddStructure => false,
-        Instruction::RemoveStructure => !inside,
-        Instruction::Define => false,
-        Instruction::RemoveDefinition => !defined,
-        Instruction::AddImport => false,
-        Instruction::RemoveImport => !imported,
-        Instruction::AddExport => false,
-        Instruction::RemoveExport => !exported,
-    }
-}
-
-// The refusal of an instruction from 3 to 7, 0 if there is none of these.
-fn early_refusal<'a>(
-    users: &'a [bool],
-    areas: &'a [bool],
-    objects: &'a [bool],
-    owners: &'a [bool],
-    definitions: &'a [bool],
-    structure: &'a [bool],
-    imports: &'a [bool],
-    exports: &'a [bool],
-    x: Instruction,
-    u: u8,
-    a: u8,
-    b: u8,
-) -> u8
-    ensures { λ r. ⌜ r ≡ firstMet (early (recordOf (now (users .entry)) (now (areas .entry)) (now (objects .entry)) (now (owners .entry)) (now (definitions .entry)) (now (structure .entry)) (now (imports .entry)) (now (exports .entry))) x u a b) ⌝ }
-{
-    if !state::is_member(users, u) {
-        return 3;
-    }
-    let area = state::is_member(areas, a);
-    let user = area & state::is_member(users, b);
-    let outer = area & state::is_member(areas, b);
-    let listed = state::is_member(objects, b);
-    let object = area & listed;
-    if is_missing(x, area, user, outer, object) {
-        return 4;
-    }
-    let own = state::is_pair(owners, u, a);
-    let other = state::is_pair(owners, u, b);
-    // `own | other` is the rule for cutting a structure pair: either owner may.
-    if !is_entitled(x, own, own & other, own | other) {
-        return 5;
-    }
-    let owned = state::is_pair(owners, b, a);
-    let inside = state::is_pair(structure, a, b);
-    let imported = state::is_pair(imports, b, a);
-    let exported = state::is_pair(exports, b, a);
-    if is_repeated(x, area, listed, owned, inside, imported, exported) {
-        return 6;
-    }
-    let defined = state::is_pair(definitions, b, a);
-    if is_absent(x, owned, defined, inside, imported, exported) {
-        return 7;
-    }
-    0
-}
-
-// Is there a pair that names the area?
-fn names_area<'a>(
-    owners: &'a [bool],
-    definitions: &'a [bool],
-    structure: &'a [bool],
-    imports: &'a [bool],
-    exports: &'a [bool],
-    area: u8,
-) -> bool
-    ensures { λ r. ⌜ r ≡ namesArea (now (owners .entry)) (now (definitions .entry)) (now (structure .entry)) (now (imports .entry)) (now (exports .entry)) area ⌝ }
-{
-    rows::in_column(owners, area)
-        | rows::in_column(definitions, area)
-        | rows::in_row(structure, area)
-        | rows::in_column(structure, area)
-        | rows::in_column(imports, area)
-        | rows::in_column(exports, area)
-}
-
-// Has the area access to the object?
-fn has_access(s: State, area: u8, object: u8) -> bool
-    ensures { λ r. ⌜ r ≡ access (lending s object) area ⌝ }
-{
-    match access::steps(
-        &s.definitions,
-        &s.structure,
-        &s.imports,
-        &s.exports,
-        area,
-        object,
-    ) {
-        Answer::Steps(_) => true,
-        Answer::NoAccess => false,
-    }
-}
-
-// The refusal of an area's unlisting, of the state t that it would give: 8 if no area is left, 9 if a pair still names the area.
-fn unlist_refusal(t: State, a: u8) -> u8
-    ensures { λ r. ⌜ r ≡ firstMet (late t UnlistArea a 0) ⌝ }
-{
-    if !soundness::has_member(&t.areas) {
-        return 8;
-    }
-    if names_area(
-        &t.owners,
-        &t.definitions,
-        &t.structure,
-        &t.imports,
-        &t.exports,
-        a,
-    ) {
-        return 9;
-    }
-    0
-}
-
-// The refusal of an instruction from 8 to 11, of the state t that it would give; 0 if there is none of these.
-fn late_refusal(t: State, x: Instruction, a: u8, b: u8) -> u8
-    ensures { λ r. ⌜ r ≡ firstMet (late t x a b) ⌝ }
-{
-    match x {
-        Instruction::UnlistArea => unlist_refusal(t, a),
-        Instruction::RemoveOwner => { if rows::in_column(&t.owners, a) { 0 } else { 8 } }
-        Instruction::AddImport | Instruction::AddExport => {
-            if has_access(t, a, b) { 0 } else { 10 }
-        }
-        Instruction::RemoveStructure
-        | Instruction::RemoveDefinition
-        | Instruction::RemoveImport
-        | Instruction::RemoveExport => {
-            if soundness::objects_reached(&t.definitions, &t.structure, &t.imports, &t.exports) {
-                0
-            } else {
-                11
-            }
-        }
-        Instruction::ListArea
-        | Instruction::AddOwner
-        | Instruction::AddStructure
-        | Instruction::Define => 0,
-    }
+    access::steps(&s.definitions, &s.structure, &s.imports, &s.exports, a, b)
 }
 
 // The outcome with this number and state.
@@ -268,45 +45,30 @@ fn outcome_of(refusal: u8, state: State) -> Outcome
 pub fn step(s: State, code: u8, activator: u8, a: u8, b: u8) -> Outcome
     ensures { λ r. ⌜ r ≡ stepOf s (fourBytes code activator a b) ⌝ }
 {
-    if !soundness::are_sound(
-        &s.users,
-        &s.areas,
-        &s.objects,
-        &s.owners,
-        &s.definitions,
-        &s.structure,
-        &s.imports,
-        &s.exports,
-    ) {
+    if !inspection::is_sound(s) {
         return outcome_of(12, s);
     }
     let decoded = instructions::decode(code, activator, a, b);
     let Decoded::Fits(x) = decoded else {
         return outcome_of(instructions::misfit(decoded), s);
     };
-    let early = early_refusal(
-        &s.users,
-        &s.areas,
-        &s.objects,
-        &s.owners,
-        &s.definitions,
-        &s.structure,
-        &s.imports,
-        &s.exports,
-        x,
-        activator,
-        a,
-        b,
-    );
+    let early = refusals::early_refusal(s, x, activator, a, b);
     if early != 0 {
         return outcome_of(early, s);
     }
-    let next = instructions::successor(s, x, activator, a, b);
-    let late = late_refusal(next, x, a, b);
+    let next = successors::successor(s, x, activator, a, b);
+    let late = refusals::late_refusal(next, x, a, b);
     if late != 0 {
         return outcome_of(late, s);
     }
     outcome_of(0, next)
+}
+
+// Are area a and object b listed?
+fn are_listed(s: State, a: u8, b: u8) -> bool
+    ensures { λ r. ⌜ r ≡ (listed s area a && listed s object b) ⌝ }
+{
+    state::is_member(&s.areas, a) & state::is_member(&s.objects, b)
 }
 
 // In how many steps has area a access to object b? Any record, and any numbers.
@@ -314,14 +76,14 @@ pub fn ask(s: State, a: u8, b: u8) -> Reply
     ensures equation { λ r. ⌜ r ≡ replyOf s a b ⌝ }
     ensures told { λ r. ⌜ Replied s a b r ⌝ }
 {
-    if !soundness::is_sound(s) {
+    if !inspection::is_sound(s) {
         return Reply::Refused(12);
     }
     if !((a < State::AREAS) & (b < State::OBJECTS)) {
         return Reply::Refused(2);
     }
-    if !(state::is_member(&s.areas, a) & state::is_member(&s.objects, b)) {
+    if !are_listed(s, a, b) {
         return Reply::Refused(4);
     }
-    Reply::Answered(access::steps(&s.definitions, &s.structure, &s.imports, &s.exports, a, b))
+    Reply::Answered(steps(s, a, b))
 }

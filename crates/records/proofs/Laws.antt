@@ -20,7 +20,7 @@ use Rattle.state.proofs.Tabulate.{length-tabulate, getD-tabulate, tabulate-is}
 use Rattle.state.proofs.Laws.{member-cell, pair-cell, empty-shaped}
 use Rattle.records.specs.Record.{listStart, pairStart, recordSize, bit, bits, bytesOf, isBit, isRecord, isSet, cellsAt, listAt, pairsAt, stateAt, stateOf, stored}
 use Rattle.records.specs.Claims
-use Rattle.records.proofs.Lay.{bits-append, bits-length}
+use Rattle.records.proofs.Bits.{bits-append, bits-length}
 use Rattle.records.proofs.Known
 use Rattle.records.proofs.Places
 use Rattle.records.proofs.Places.{places, Held, list-held, pairs-held, by-cells, byte-at, byte-of}

@@ -18,7 +18,7 @@ use Rattle.state.specs.declared.State.{State}
 use Rattle.records.specs.Record.{listStart, pairStart, recordSize, bit, bits, listByte, listBytes, pairByte, pairBytes, bytesOf}
 use Rattle.state.proofs.Tabulate.{length-tabulate, tabulate-is}
 use Rattle.state.proofs.Laws.{member-cell, pair-cell}
-use Rattle.records.proofs.Lay.{bits-append, bits-length}
+use Rattle.records.proofs.Bits.{bits-append, bits-length}
 
 -- the cells of a state, those of one set or relation behind those of another
 abbrev pub places : State → List Bool

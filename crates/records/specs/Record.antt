@@ -9,7 +9,6 @@ use mathlib.Core.Bool.{Bool, _&&_, cond}
 use mathlib.Core.List.{List, _++_, map}
 use lib.Dec.{eqb, ltb}
 use lib.ListN.{length, getD}
-use lib.Seq.{sets}
 use Rattle.state.specs.Below.{eachBelow}
 use Rattle.state.specs.Tabulate.{tabulate}
 use Rattle.state.specs.Cells.{width}
@@ -104,10 +103,6 @@ numberFor buffer = cond (isSized buffer) 0 31
 unfoldable pub stored : (buffer : List ℕ) → State → List ℕ
 stored buffer s = cond (isSized buffer) (bytesOf s) buffer
 
--- ---- what this crate's own functions promise each other
--- cells as bytes, and a buffer with cells written over it as bytes, from `at` on
+-- ---- cells as bytes
 abbrev pub bits : List Bool → List ℕ
 bits cells = map bit cells
-
-unfoldable pub laid : (buffer : List ℕ) (at : ℕ) → List Bool → List ℕ
-laid buffer at cells = sets buffer at (bits cells)

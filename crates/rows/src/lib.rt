@@ -1,9 +1,10 @@
-// What is read of a relation as a whole: the row of a number, whether a row or a column holds a pair, the numbers that pairs name, and the relation with each pair turned round.
+// What is read of a relation as a whole: the row of a number, whether a row or a column holds a pair, and the relation
+// with each pair turned round.
 ghost use mathlib.Core.Path.{_≡_};
-ghost use Prim.Native.Nat.{_-_, _≤_, min};
+ghost use Prim.Native.Nat.{_-_, min};
 ghost use lib.ListN.{length};
 ghost use Rattle.state.specs.Walk.{hasFirst, hasSecond};
-ghost use Rattle.rows.specs.Rows.{row, firsts, seconds, transpose};
+ghost use Rattle.rows.specs.Rows.{row, transpose};
 
 // A relation between areas with each pair turned round.
 pub fn transposed(cells: &[bool; 1024]) -> [bool; 1024]
@@ -57,34 +58,6 @@ pub fn in_row(cells: &[bool], first: u8) -> bool
     found
 }
 
-// Writes for each number whether it is the first of some pair.
-fn mark_firsts<'a>(out: &'a mut [bool], cells: &'a [bool])
-    requires { ⌜ length (now out) ≤ 256 ⌝ }
-    ensures { λ _. ⌜ now (out .exit) ≡ firsts (length (now (out .entry))) (now (cells .entry)) ⌝ }
-{
-    for i in 0..out.len() {
-        out[i] = in_row(cells, i as u8);
-    }
-}
-
-// The numbers below 32 that are the first of some pair.
-pub fn firsts_32(cells: &[bool]) -> [bool; 32]
-    ensures { λ r. ⌜ r ≡ firsts 32 (now (cells .entry)) ⌝ }
-{
-    let mut out = [false; 32];
-    mark_firsts(&mut out, cells);
-    out
-}
-
-// The numbers below 64 that are the first of some pair.
-pub fn firsts_64(cells: &[bool]) -> [bool; 64]
-    ensures { λ r. ⌜ r ≡ firsts 64 (now (cells .entry)) ⌝ }
-{
-    let mut out = [false; 64];
-    mark_firsts(&mut out, cells);
-    out
-}
-
 // Is there a pair with this area?
 pub fn in_column(cells: &[bool], area: u8) -> bool
     ensures { λ r. ⌜ r ≡ hasSecond (now (cells .entry)) area ⌝ }
@@ -100,15 +73,4 @@ pub fn in_column(cells: &[bool], area: u8) -> bool
         at = at + 32;
     }
     false
-}
-
-// The areas that are the second of some pair.
-pub fn seconds(cells: &[bool]) -> [bool; 32]
-    ensures { λ r. ⌜ r ≡ seconds (now (cells .entry)) ⌝ }
-{
-    let mut out = [false; 32];
-    for j in 0..32u8 {
-        out[j as usize] = in_column(cells, j);
-    }
-    out
 }

@@ -1,5 +1,6 @@
 -- A file is accepted exactly when each check is passed: what the refusals say together.
 --     checked, accepted            from no refusal, and to no refusal
+--     state-sound, sized           what follows of the state and of the tables
 -- Assumes nothing.
 use Prim.Native.Nat.{ℕ, _≤_}
 use mathlib.Core.Path.{_≡_, refl, ap, _∙_}
@@ -10,12 +11,15 @@ use lib.Dec.{T, eqb, ltb, eqb→eq, nltb→le}
 use lib.ListN.{length}
 use Rattle.state.proofs.Bools.{is-true, fails, so-not, so, neither}
 use Rattle.state.proofs.Checks.{passed, none-met, Passed, all-passed}
+use Rattle.soundness.specs.Sound.{Sound}
 use Rattle.soundness.specs.Tests.{isConsistent, isValid}
 use Rattle.label_tables.specs.Labels.{labelsListed}
-use Rattle.site_format.specs.Format.{headerSize, Content, labels, rowOf, tables, field, countIn, part, inRange, ascending}
+use Rattle.site_format.specs.Format.{headerSize, Content, labels, rowOf, tables, field, countIn, sizeIn, part, inRange, ascending}
 use Rattle.site_format.proofs.Tables.{test-of, by-test}
-use Rattle.site_format.specs.Header.{countsFit, placedFrom}
+use Rattle.site_header.proofs.Laws.{part-size}
+use Rattle.site_header.specs.Header.{countsFit, placedFrom}
 use Rattle.site_file.specs.Reading.{tablesFit, tablesAscend, stateIn, noOwner, definedTwice, checks, refusalOf, readOf}
+use Rattle.site_file.proofs.Held.{derived, shaped, sound-by}
 
 -- ---- what the checks say
 pub record Checked (file : List ℕ) : Type 0 where
@@ -89,6 +93,14 @@ accepted file k =
   where
     hold : (a : Bool) → T a → not a ≡ false
     hold a t = ap not (is-true a t)
+
+-- The state of a file that passes each check is sound, and each of its tables has the bytes that its count says.
+module _ (file : List ℕ) (k : Checked file) where
+  pub state-sound : Sound (stateIn file)
+  state-sound = sound-by (stateIn file) (derived file) (shaped file) (k .owned) (k .named) (k .defined-once) (k .valid)
+
+  pub sized : (c : Content) → length (part file c) ≡ sizeIn file c
+  sized = part-size file (k .placed)
 
 -- the state of a file that is accepted
 pub state-read : (file : List ℕ) → refusalOf file ≡ 0 → readOf file .state ≡ stateIn file

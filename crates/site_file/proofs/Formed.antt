@@ -10,9 +10,8 @@ use Rattle.state.specs.Site.{area, object, listed, Shaped}
 use Rattle.state.specs.declared.State.{State}
 use Rattle.state.proofs.Bools.{is-false, not-so, same-test}
 use Rattle.state.proofs.Laws.{some-pair}
-use Rattle.soundness.specs.Tests.{isConsistent, isAcceptable, someListed}
-use Rattle.soundness.specs.Rows.{wellFormedOf}
-use Rattle.soundness.proofs.Laws.{acceptable-decided, some-decided, well-formed-of-record}
+use Rattle.soundness.specs.Tests.{isConsistent, isAcceptable, someListed, isWellFormed}
+use Rattle.soundness.proofs.Laws.{acceptable-decided, some-decided}
 use Rattle.label_tables.specs.Labels.{labelsListed}
 use Rattle.site_file.specs.Reading.{noOwner, namesUnlisted, definedTwice}
 use Rattle.site_file.proofs.Held.{Derived, derived-lists, acceptable-by, not-twice}
@@ -27,10 +26,6 @@ joined true true true false = refl
 joined true true false labelled = refl
 joined false twice true labelled = refl
 joined false twice false labelled = refl
-
--- what `are_well_formed` tells of the record
-abbrev pub formed : State → Bool
-formed s = wellFormedOf (s .users) (s .areas) (s .objects) (s .owners) (s .definitions) (s .structure) (s .imports) (s .exports)
 
 module _ (s : State) (d : Derived s) (shape : Shaped s) where
   -- it is acceptable where each object is defined once
@@ -55,16 +50,16 @@ module _ (s : State) (d : Derived s) (shape : Shaped s) where
 
   -- ---- from what the functions tell of the record, and of a label block
   module _ (l : List ℕ) where
-    ill-formed : (noOwner s || namesUnlisted s l || definedTwice s) ≡ (not (formed s) || not (labelsListed (s .areas) l))
+    ill-formed : (noOwner s || namesUnlisted s l || definedTwice s) ≡ (not (isWellFormed s) || not (labelsListed (s .areas) l))
     ill-formed =
         sym
-        (ap (λ (b : Bool). not b || not (labelsListed (s .areas) l)) (well-formed-of-record s shape ∙ ap₂ (λ (a b : Bool). isConsistent s && a && b) acceptable-is some-area-is)
+        (ap (λ (b : Bool). not b || not (labelsListed (s .areas) l)) (ap₂ (λ (a b : Bool). isConsistent s && a && b) acceptable-is some-area-is)
         ∙ joined (isConsistent s) (definedTwice s) (somePair (s .owners) (λ u a. true)) (labelsListed (s .areas) l))
 
     -- the record alone decides 28, or the labels do
-    pub by-record : {told : Bool} → told ≡ formed s → not told ≡ true → (noOwner s || namesUnlisted s l || definedTwice s) ≡ true
+    pub by-record : {told : Bool} → told ≡ isWellFormed s → not told ≡ true → (noOwner s || namesUnlisted s l || definedTwice s) ≡ true
     by-record e n = ill-formed ∙ ap (λ (b : Bool). b || not (labelsListed (s .areas) l)) (ap not (sym e) ∙ n)
 
-    pub by-labels : {told listed : Bool} (v : Bool) → told ≡ formed s → listed ≡ labelsListed (s .areas) l → not told ≡ false → not listed ≡ v
+    pub by-labels : {told listed : Bool} (v : Bool) → told ≡ isWellFormed s → listed ≡ labelsListed (s .areas) l → not told ≡ false → not listed ≡ v
         → (noOwner s || namesUnlisted s l || definedTwice s) ≡ v
     by-labels v e k n m = ill-formed ∙ ap₂ _||_ (ap not (sym e) ∙ n) (ap not (sym k) ∙ m)

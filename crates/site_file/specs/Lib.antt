@@ -1,6 +1,4 @@
--- What a reader of this crate believes: the refusals and what an accepted file holds (Reading), the encoding of a state and its labels
--- (Encode), where an area's label stands (Finder), and what is claimed (Claims).
+-- What a reader of this crate believes: the refusals and what an accepted file holds (Reading), and what is claimed of
+-- the reader (Claims).
 pub mod Reading
-pub mod Encode
-pub mod Finder
 pub mod Claims

@@ -13,7 +13,7 @@ use Rattle.soundness.specs.Tests.{isConsistent, isValid}
 use Rattle.pair_tables.specs.Pairs.{withPairs}
 use Rattle.label_tables.specs.Labels.{labelsListed}
 use Rattle.site_format.specs.Format.{eachTable, pairsOf, labels, tables, part, inRange, ascending}
-use Rattle.site_format.specs.Header.{headerChecks}
+use Rattle.site_header.specs.Header.{headerChecks}
 use Rattle.site_file.specs.declared.Reading.{Reading}
 
 -- ---- the state that a file holds
@@ -67,7 +67,7 @@ tableChecks file = (26 when outOfRange file) ∷ (27 when outOfOrder file) ∷ [
 abbrev pub stateChecks : State → (block : List ℕ) → List Check
 stateChecks s l = (28 when noOwner s || namesUnlisted s l || definedTwice s) ∷ (29 when not (isValid s)) ∷ []
 
--- "Reader refusals, lowest number first over the whole file": 21 to 25 (site_format, Header), then these
+-- "Reader refusals, lowest number first over the whole file": 21 to 25 (site_header, Header), then these
 abbrev pub checks : (file : List ℕ) → List Check
 checks file = headerChecks file ++ tableChecks file ++ stateChecks (stateIn file) (part file labels)
 

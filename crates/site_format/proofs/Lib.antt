@@ -1,3 +1,2 @@
--- Laws has the claims of specs/. Tables has facts and tests of each table, for this crate and the one above.
+-- Tables has facts and tests of each table, for the crates above.
 pub mod Tables
-pub mod Laws

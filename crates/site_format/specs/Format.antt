@@ -1,11 +1,15 @@
 -- The format of a site file as data (document 01, 'The site file'): the header's fields, and one row for each table.
-use Prim.Native.Nat.{ℕ, _+_, _*_}
+use Prim.Native.Nat.{ℕ, _+_, _*_, _<_}
 use mathlib.Core.Bool.{Bool, true, _&&_}
 use mathlib.Core.List.{List, [], _∷_}
 use lib.ListN.{getD, take, drop}
 use Rattle.state.specs.Site.{Relation, owner, definition, structure, import, export, limit, firstKind}
 use Rattle.pair_tables.specs.Pairs.{pairSize, pairsFit, pairsAscend}
 use Rattle.label_tables.specs.Labels.{labelSize, labelsFit, labelsAscend}
+
+-- each number of the list is that of a byte
+abbrev pub AreBytes : List ℕ → Type 0
+AreBytes file = (i : ℕ) → getD file i 0 < 256
 
 -- "A header of 28 bytes"
 abbrev pub headerSize : ℕ

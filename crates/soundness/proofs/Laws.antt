@@ -1,4 +1,4 @@
--- The claims of specs/Claims.antt, each proved under its name, and what the tests over lists decide.
+-- The claims of specs/Claims.antt, each proved under its name.
 -- Assumes nothing.
 use Prim.Native.Nat.{ℕ}
 use mathlib.Core.Path.{_≡_, refl, sym, subst}
@@ -15,11 +15,8 @@ use Rattle.access.specs.Lending.{lending}
 use Rattle.access.specs.Answer.{access}
 use Rattle.soundness.specs.Sound.{Named, Consistent}
 use Rattle.soundness.specs.Tests.{named, consistentOf, isConsistent, allOwn, allOwned, once, allDefined, acceptableOf, isAcceptable, someListed, validOf, isValid, isSound}
-use Rattle.soundness.specs.Rows.{wellFormedOf, soundOf}
 use Rattle.soundness.specs.Claims
 use Rattle.soundness.proofs.Tests.{named-decided, once-decided}
-use Rattle.soundness.proofs.Rows
-use Rattle.soundness.proofs.Shape.{shape-holds}
 use Rattle.soundness.proofs.Names.{sound-lists, same-by-names}
 
 -- ---- valid
@@ -32,9 +29,6 @@ valid-decided s =
     let a = eachPair (s .imports) fits in
     let b = eachPair (s .exports) fits in
     (λ t. record { imported = im .0 (and-left a b t); exported = ex .0 (and-right a b t) }, λ v. and-both a b (im .1 (v .imported)) (ex .1 (v .exported)))
-
-pub valid-by-objects : Claims.ValidByObjects
-valid-by-objects s shaped = Rows.valid-by-objects (s .definitions) (s .structure) (s .imports) (s .exports) (shaped .relations import) (shaped .relations export)
 
 -- ---- consistent
 -- what the pairs of one relation name is listed
@@ -209,12 +203,3 @@ empty-unsound = is-false (isSound empty) none
 -- ---- a sound record is that of its relations
 pub record-of-relations : Claims.RecordOfRelations
 record-of-relations s t h k e = same-by-names s t (h .shaped) (k .shaped) (sound-lists s h) (sound-lists t k) (λ r i j hi hj. e r i j)
-
--- ---- the arrays of a record
-pub well-formed-of-record : Claims.WellFormedOfRecord
-unfolding wellFormedOf
-well-formed-of-record s shaped = rw (shape-holds s shaped) refl
-
-pub sound-of-record : Claims.SoundOfRecord
-unfolding isSound soundOf
-sound-of-record s shaped = rw (well-formed-of-record s shaped, valid-by-objects s shaped) refl

@@ -1,4 +1,5 @@
--- The tests over lists of cells, and what they decide: what a relation's pairs name is listed (named-decided), and there is exactly one pair (once-decided).
+-- The tests over lists of cells, and what they decide: what a relation's pairs name is listed (named-decided), and
+-- there is exactly one pair (once-decided).
 -- Assumes nothing.
 use Prim.Native.Nat.{ℕ}
 use mathlib.Core.Path.{_≡_, refl}

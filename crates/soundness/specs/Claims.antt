@@ -1,15 +1,15 @@
--- What is claimed: each test decides its part, and all of them soundness; the founding state is sound, the state of nothing is not, and a sound record is that of its relations. Each claim is a
--- type, which proofs/Laws.antt inhabits under the claim's name.
+-- What is claimed: each test decides its part, and all of them soundness; the founding state is sound, the state of
+-- nothing is not, and a sound record is that of its relations. Each claim is a type, which proofs/Laws.antt inhabits
+-- under the claim's name.
 use Prim.Native.Nat.{ℕ}
 use mathlib.Core.Path.{_≡_}
 use mathlib.Core.Logic.{_↔_}
-use mathlib.Core.Bool.{false, _&&_}
+use mathlib.Core.Bool.{false}
 use lib.Dec.{T}
 use Rattle.state.specs.Cells.{Members, member}
 use Rattle.state.specs.Site.{object, listed, Relation, related, Shaped, empty, founding}
 use Rattle.state.specs.declared.State.{State}
 use Rattle.soundness.specs.Sound.{Consistent, DefinedOnce, Acceptable, Valid, Sound}
-use Rattle.soundness.specs.Rows.{objectsReached, wellFormedOf, soundOf}
 use Rattle.soundness.specs.Tests.{isConsistent, allDefined, isAcceptable, someListed, isValid, isSound}
 
 -- each test decides its part
@@ -28,22 +28,9 @@ SomeDecided = (set : Members) → T (someListed set) ↔ ((i : ℕ) × T (member
 abbrev pub ValidDecided : Type 0
 ValidDecided = (s : State) → T (isValid s) ↔ Valid s
 
--- validity is that each of the 64 objects is reached wherever it is imported or exported, which is what `objects_reached` promises of the relations lent to it
-abbrev pub ValidByObjects : Type 0
-ValidByObjects = (s : State) → Shaped s → isValid s ≡ objectsReached (s .definitions) (s .structure) (s .imports) (s .exports)
-
 -- the test decides soundness, of a record that has its shape
 abbrev pub SoundDecided : Type 0
 SoundDecided = (s : State) → Shaped s → T (isSound s) ↔ Sound s
-
--- what `are_well_formed` and `are_sound` promise of the arrays lent to them is soundness without validity, and soundness, where they are a record's
-abbrev pub WellFormedOfRecord : Type 0
-WellFormedOfRecord =
-    (s : State) → Shaped s
-    → wellFormedOf (s .users) (s .areas) (s .objects) (s .owners) (s .definitions) (s .structure) (s .imports) (s .exports) ≡ (isConsistent s && isAcceptable s && someListed (s .areas))
-
-abbrev pub SoundOfRecord : Type 0
-SoundOfRecord = (s : State) → Shaped s → isSound s ≡ soundOf (s .users) (s .areas) (s .objects) (s .owners) (s .definitions) (s .structure) (s .imports) (s .exports)
 
 abbrev pub FoundingSound : Type 0
 FoundingSound = Sound founding

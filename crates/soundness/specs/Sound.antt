@@ -1,6 +1,7 @@
--- "A state is sound when it is consistent (whatever a pair names is listed), acceptable (every listed user owns an area, every listed area has an owner,
--- every listed object is defined in exactly one area), has at least one area, and is valid: for each import or export pair the area has access to the
--- object." (document 01, 'The state'; 001, section 4.2). Each part is a named fact.
+-- "A state is sound when it is consistent (whatever a pair names is listed), acceptable (every listed user owns an
+-- area, every listed area has an owner, every listed object is defined in exactly one area), has at least one area, and
+-- is valid: for each import or export pair the area has access to the object." (document 01, 'The state'; 001, section
+-- 4.2). Each part is a named fact.
 use Prim.Native.Nat.{ℕ}
 use mathlib.Core.Path.{_≡_}
 use lib.Dec.{T}
@@ -24,7 +25,8 @@ pub record DefinedOnce (s : State) (o : ℕ) : Type 0 where
   pub defined : T (defines s o place)
   pub only : (a : ℕ) → T (defines s o a) → a ≡ place
 
--- "acceptable (every listed user owns an area, every listed area has an owner, every listed object is defined in exactly one area)"
+-- "acceptable (every listed user owns an area, every listed area has an owner, every listed object is defined in
+-- exactly one area)"
 pub record Acceptable (s : State) : Type 0 where
   pub users : (u : ℕ) → T (listed s user u) → (a : ℕ) × T (owns s u a)
   pub areas : (a : ℕ) → T (listed s area a) → (u : ℕ) × T (owns s u a)
@@ -39,8 +41,9 @@ pub record Valid (s : State) : Type 0 where
   pub imported : (o a : ℕ) → T (imports s o a) → T (access (lending s o) a)
   pub exported : (o a : ℕ) → T (exports s o a) → T (access (lending s o) a)
 
--- Sound. `shaped` is what the type of the record says in the code. "Each state has one record" needs no part of its own: a record holds its lists and
--- relations and nothing else (state, claim OneRecord), and in a sound one the relations fix the lists (Claims, RecordOfRelations).
+-- Sound. `shaped` is what the type of the record says in the code. "Each state has one record" needs no part of its
+-- own: a record holds its lists and relations and nothing else (state, claim OneRecord), and in a sound one the
+-- relations fix the lists (Claims, RecordOfRelations).
 pub record Sound (s : State) : Type 0 where
   pub shaped : Shaped s
   pub consistent : Consistent s

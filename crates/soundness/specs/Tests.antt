@@ -1,5 +1,5 @@
--- The tests that decide soundness, part by part. Each walks the cells that are set, so that the checker can compute it. The shape is not tested: no record
--- of the code is without it (Claims, SoundDecided).
+-- The tests that decide soundness, part by part. Each walks the cells that are set, so that the checker can compute it.
+-- The shape is not tested: no record of the code is without it (Claims, SoundDecided).
 use Prim.Native.Nat.{ℕ}
 use mathlib.Core.Bool.{Bool, true, _&&_, _||_, not}
 use lib.Dec.{eqb}
@@ -45,6 +45,10 @@ isAcceptable s = acceptableOf (s .users) (s .areas) (s .objects) (s .owners) (s 
 -- "has at least one area"
 unfoldable pub someListed : Members → Bool
 someListed set = someMember set (λ i. true)
+
+-- sound but for validity
+abbrev pub isWellFormed : State → Bool
+isWellFormed s = isConsistent s && isAcceptable s && someListed (s .areas)
 
 -- "for each import or export pair the area has access to the object"
 unfoldable pub validOf : (definitions structure imports exports : Pairs) → Bool

@@ -84,3 +84,9 @@ implied false b f = tt
 pub implies : (a b : Bool) → T (not a || b) → T a → T b
 implies true b t s = t
 implies false b t s = absurd s
+
+-- and where it fails, a holds and b does not
+pub fails-both : (a b : Bool) → T (not (not a || b)) → T a × (T b → ⊥)
+fails-both true true n = absurd n
+fails-both true false n = (tt, λ h. h)
+fails-both false b n = absurd n

@@ -1,7 +1,7 @@
 -- The claims of specs/Laws.antt, each proved under its name. Every law of a relation is a law of its cells (Cells.antt), at whichever relation.
 -- Assumes nothing.
 use Prim.Native.Nat.{ℕ, zero, suc, _+_, _*_, _≤_, _<_, _/_, _%_}
-use mathlib.Core.Path.{_≡_, refl, sym, ap, _∙_}
+use mathlib.Core.Path.{_≡_, refl, sym, ap, subst, _∙_}
 use mathlib.Core.Logic.{_⊎_, inl, inr, ⊎-elim, _↔_}
 use mathlib.Core.Bool.{Bool, true, false, cond, not}
 use mathlib.Core.List.{List}
@@ -227,6 +227,22 @@ listed-inside s k i shaped t = rw (shaped .sets k) at (member-inside (members s 
 
 pub related-inside : Laws.RelatedInside
 related-inside s r i j shaped t = (pair-first (cells s r) (limit (firstKind r)) i j (shaped .relations r) t, pair-area (cells s r) i j t)
+
+-- what is taken out lay inside, so it is gone
+pub unlisted-gone : Laws.UnlistedGone
+unlisted-gone s k i sh t = fails (listed-same s k i false sh (listed-inside s k i sh (unlist-adds-none s k k i i t))) t
+
+pub removed-gone : Laws.RemovedGone
+removed-gone s r i j sh t =
+    let inside = related-inside s r i j sh (remove-adds-none s r r i j i j t) in
+    fails (related-same s r i j false sh (inside .0) (inside .1)) t
+
+pub others-stay : Laws.OthersStay
+others-stay s r t i j m n v ne h = go (related-else s r t i j m n v)
+  where
+    go : ((t ≡ r) × (m ≡ i) × (n ≡ j)) ⊎ (related (withPair s r i j v) t m n ≡ related s t m n) → T (related (withPair s r i j v) t m n)
+    go (inl e) = absurd (ne (e .0) (e .1) (e .2))
+    go (inr e) = subst T (sym e) h
 
 pub some-pair : Laws.SomePair
 unfolding somePair

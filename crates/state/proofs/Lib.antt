@@ -1,4 +1,5 @@
--- Cells has the laws of how a set and a relation are kept, and is this crate's own. Bools, Tabulate, Fill, Stores, Found, Walk, Below, Ascending and Checks serve every crate above.
+-- Cells has the laws of how a set and a relation are kept, and is this crate's own. Bools, Tabulate, Fill, Stores, Found, Walk, Below, Ascending, Checks
+-- and Typed serve the crates above.
 mod Cells
 pub mod Bools
 pub mod Tabulate

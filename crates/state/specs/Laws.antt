@@ -32,6 +32,10 @@ ListKeepsListed = (s : State) (k l : Kind) (i n : ℕ) → T (listed s l n) → 
 abbrev pub UnlistAddsNone : Type 0
 UnlistAddsNone = (s : State) (k l : Kind) (i n : ℕ) → T (listed (withListed s k i false) l n) → T (listed s l n)
 
+-- and is itself no longer listed
+abbrev pub UnlistedGone : Type 0
+UnlistedGone = (s : State) (k : Kind) (i : ℕ) → Shaped s → T (listed (withListed s k i false) k i) → ⊥
+
 abbrev pub ListKeepsPairs : Type 0
 ListKeepsPairs = (s : State) (k : Kind) (i : ℕ) (v : Bool) (r : Relation) (m n : ℕ) → related (withListed s k i v) r m n ≡ related s r m n
 
@@ -59,6 +63,14 @@ AddKeepsPairs = (s : State) (r t : Relation) (i j m n : ℕ) → T (related s t 
 
 abbrev pub RemoveAddsNone : Type 0
 RemoveAddsNone = (s : State) (r t : Relation) (i j m n : ℕ) → T (related (withPair s r i j false) t m n) → T (related s t m n)
+
+-- and is itself no longer there, while another pair than the one that is written stays
+abbrev pub RemovedGone : Type 0
+RemovedGone = (s : State) (r : Relation) (i j : ℕ) → Shaped s → T (related (withPair s r i j false) r i j) → ⊥
+
+abbrev pub OthersStay : Type 0
+OthersStay =
+    (s : State) (r t : Relation) (i j m n : ℕ) (v : Bool) → (t ≡ r → m ≡ i → n ≡ j → ⊥) → T (related s t m n) → T (related (withPair s r i j v) t m n)
 
 -- ---- a pair put into the cells of a relation by itself, for what fills one before there is a record
 abbrev pub PutSame : Type 0

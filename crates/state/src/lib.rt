@@ -4,8 +4,7 @@ ghost use Prim.Native.Nat.{_+_, _*_};
 ghost use mathlib.Core.Bool.{false};
 ghost use lib.ListN.{getD, set};
 ghost use Rattle.state.specs.Cells.{member, mark, pair, put};
-ghost use Rattle.state.specs.Walk.{count};
-ghost use Rattle.state.specs.Site.{empty, founding, counts};
+ghost use Rattle.state.specs.Site.{empty, founding};
 
 // One cell for each number, and one for each pair, row by row: the cell of (i, j) is i * 32 + j.
 pub struct State {
@@ -96,32 +95,6 @@ pub fn is_pair(cells: &[bool], first: u8, area: u8) -> bool
     } else {
         false
     }
-}
-
-// How many numbers or pairs are there?
-pub fn count(cells: &[bool]) -> usize
-    ensures { λ r. ⌜ r ≡ count (now (cells .entry)) ⌝ }
-{
-    let mut n: usize = 0;
-    for i in 0..cells.len() {
-        n = n + cells[i] as usize;
-    }
-    n
-}
-
-// How many users, areas, objects, owner, structure, import and export pairs are there?
-pub fn counts(s: State) -> [usize; 7]
-    ensures { λ r. ⌜ r ≡ counts s ⌝ }
-{
-    [
-        count(&s.users),
-        count(&s.areas),
-        count(&s.objects),
-        count(&s.owners),
-        count(&s.structure),
-        count(&s.imports),
-        count(&s.exports),
-    ]
 }
 
 // Puts the number into the set, or takes it out.

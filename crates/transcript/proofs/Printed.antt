@@ -1,5 +1,5 @@
 -- What is printed for an input: the claims, and what the functions use.
---     session-is-run, session-printed, session-upheld     the session is a run, and demand 3 speaks of it
+--     session-printed                                     what is printed for a session
 --     too-long-printed, told-printed                      the two transcripts that `write` writes
 --     printed-at-most, printed-room                       no transcript has more bytes, so there is room for it
 -- Assumes nothing.
@@ -14,23 +14,15 @@ use lib.ListN.{length, take, length-append}
 use Rattle.state.specs.Site.{founding, counts}
 use Rattle.state.specs.declared.State.{State}
 use Rattle.state.proofs.Laws.{counts-within}
-use Rattle.soundness.specs.Sound.{Sound}
-use Rattle.soundness.proofs.Laws.{founding-sound}
-use Rattle.machine.specs.Demand3.{Upheld}
-use Rattle.machine.proofs.Demand3.{demand-3}
 use Rattle.lines.specs.Lines.{linesOf}
-use Rattle.lines.specs.declared.Line.{Line}
 use Rattle.lines.proofs.Laws.{lines-at-most}
-use Rattle.transcript.specs.Session.{resultsFrom, stateAfter, instructionsOf}
-use Rattle.transcript.specs.Transcript.{resultLines, stateLine, sessionText, mostRead, isTooLong, tooLong, resultsOf, stateOf, transcriptOf, mostPrinted}
+use Rattle.sessions.specs.Session.{resultsFrom, stateAfter, resultsOf, stateOf}
+use Rattle.sessions.proofs.Laws.{session-is-run}
+use Rattle.sessions.proofs.Session.{results-length, results-small, sound-after}
+use Rattle.transcript.specs.Transcript.{resultLines, stateLine, sessionText, mostRead, isTooLong, tooLong, transcriptOf, mostPrinted}
 use Rattle.transcript.specs.Placing.{Told, Room}
 use Rattle.transcript.specs.Claims as Claims
-use Rattle.transcript.proofs.Session.{after-append, after-run, results-length, results-small}
 use Rattle.transcript.proofs.Lengths.{lines-length, state-length}
-
-pub session-is-run : Claims.SessionIsRun
-unfolding stateOf
-session-is-run input = after-run founding (linesOf input)
 
 -- an input that is not too long prints its session
 fitting : (input : List ℕ) → isTooLong input ≡ false → transcriptOf input ≡ sessionText (resultsOf input) (counts (stateOf input))
@@ -51,15 +43,6 @@ told-printed input results lines s numbers told e fits =
 pub session-printed : Claims.SessionPrinted
 session-printed input fits =
     fitting input (le-ltb mostRead (length input) fits) ∙ ap (λ (s : State). sessionText (resultsOf input) (counts s)) (session-is-run input)
-
-sound-after : (lines : List Line) → Sound (stateAfter founding lines)
-sound-after lines = subst Sound (sym (after-run founding lines)) (demand-3 founding (instructionsOf lines) founding-sound .sound)
-
-pub session-upheld : Claims.SessionUpheld
-session-upheld before after =
-    subst (λ (t : State). Upheld (stateAfter founding before) (instructionsOf after) t)
-    (sym (after-append founding before after ∙ after-run (stateAfter founding before) after))
-    (demand-3 (stateAfter founding before) (instructionsOf after) (sound-after before))
 
 -- ---- no transcript has more bytes
 results-text : (input : List ℕ) → length input ≤ mostRead → length (resultLines 1 (resultsOf input)) ≤ 9 * mostRead

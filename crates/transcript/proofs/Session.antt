@@ -1,57 +1,23 @@
--- A session line by line.
---     after-append, after-run     the state after lines in two parts, and as a run of instructions
---     results-length, results-small     a result for each line, of at most two digits
+-- A session line by line, as the loop obeys it.
 --     Reached, reached-none, reached-more, reached-all     a loop that obeys one line a turn
 -- Assumes nothing.
-use Prim.Native.Nat.{ℕ, zero, suc, _+_, _-_, _≤_, _<_}
+use Prim.Native.Nat.{ℕ, _+_, _-_, _≤_, _<_}
 use mathlib.Core.Path.{_≡_, refl, sym, ap, _∙_}
 use mathlib.Core.List.{List, [], _∷_, _++_, append-nil}
 use native.Mathlib.Numerals.{add-one}
 use native.Mathlib.Omega.{arith}
-use lib.ListN.{length, getD, take, drop, set, length-set, length-drop}
+use lib.ListN.{length, take, drop, set, length-set, length-drop}
 use lib.Seq.{take-all, drop-drop, drop-length, take-suc-set, append-snoc}
 use Rattle.state.specs.Site.{founding}
 use Rattle.state.specs.declared.State.{State}
-use Rattle.instructions.specs.Instructions.{fourBytes}
-use Rattle.machine.specs.Step.{stepOf, run}
 use Rattle.machine.specs.declared.Outcome.{Outcome}
-use Rattle.machine.proofs.Laws.{two-digits, run-none, run-more}
 use Rattle.lines.specs.Lines.{linesOf, firstLineOf}
 use Rattle.lines.specs.Claims.{Sized}
 use Rattle.lines.specs.declared.First.{First}
 use Rattle.lines.specs.declared.Line.{Line}
-use Rattle.lines.specs.declared.Line.the-variants.{Unreadable, Readable}
 use Rattle.lines.proofs.Laws.{no-line, first-line, first-size}
-use Rattle.transcript.specs.Session.{obeyed, resultsFrom, stateAfter, instructionsOf}
-use Rattle.transcript.specs.Transcript.{resultsOf, stateOf}
+use Rattle.sessions.specs.Session.{obeyed, resultsFrom, stateAfter, resultsOf, stateOf}
 use Rattle.transcript.specs.Placing.{Told}
-
-pub after-append : (s : State) (before after : List Line) → stateAfter s (before ++ after) ≡ stateAfter (stateAfter s before) after
-unfolding stateAfter
-after-append s [] after = refl
-after-append s (line ∷ before) after = after-append (obeyed s line .state) before after
-
-pub after-run : (s : State) (lines : List Line) → stateAfter s lines ≡ run s (instructionsOf lines)
-unfolding stateAfter
-after-run s [] = sym (run-none s)
-after-run s (Unreadable ∷ lines) = after-run s lines
-after-run s (Readable c u a b ∷ lines) =
-    after-run (stepOf s (fourBytes c u a b) .state) lines ∙ sym (run-more s (fourBytes c u a b) (instructionsOf lines))
-
-pub results-length : (s : State) (lines : List Line) → length (resultsFrom s lines) ≡ length lines
-unfolding resultsFrom
-results-length s [] = refl
-results-length s (line ∷ lines) = ap suc (results-length (obeyed s line .state) lines)
-
-result-small : (s : State) (line : Line) → obeyed s line .refusal < 100
-result-small s Unreadable = omega arith
-result-small s (Readable c u a b) = two-digits s (fourBytes c u a b)
-
-pub results-small : (s : State) (lines : List Line) (i : ℕ) → getD (resultsFrom s lines) i 0 < 100
-unfolding resultsFrom
-results-small s [] i = omega arith
-results-small s (line ∷ lines) zero = result-small s line
-results-small s (line ∷ lines) (suc i) = results-small (obeyed s line .state) lines i
 
 -- ---- the loop: after so many lines, which end at `at`, the rest is still to be obeyed from state s; there are n places for results
 pub record Reached (n : ℕ) (input results : List ℕ) (lines at : ℕ) (s : State) : Type 0 where

@@ -7,7 +7,8 @@ use mathlib.Core.List.{List}
 use lib.ListN.{length, take}
 use lib.Seq.{sets}
 use Rattle.state.specs.declared.State.{State}
-use Rattle.transcript.specs.Transcript.{mostPrinted, resultsOf, stateOf}
+use Rattle.sessions.specs.Session.{resultsOf, stateOf}
+use Rattle.transcript.specs.Transcript.{mostPrinted}
 
 -- the place behind the text is no further than the longest transcript goes
 abbrev pub Room : (at : ℕ) (text : List ℕ) → Type 0

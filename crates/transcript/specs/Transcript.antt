@@ -4,11 +4,10 @@ use mathlib.Core.Bool.{Bool, cond}
 use mathlib.Core.List.{List, [], _∷_, _++_}
 use lib.Dec.{ltb}
 use lib.ListN.{length, drop}
-use Rattle.state.specs.Site.{founding, counts}
-use Rattle.state.specs.declared.State.{State}
+use Rattle.state.specs.Site.{counts}
 use Rattle.lines.specs.Decimal.{decimal}
-use Rattle.lines.specs.Lines.{newline, space, linesOf}
-use Rattle.transcript.specs.Session.{resultsFrom, stateAfter}
+use Rattle.lines.specs.Lines.{newline, space}
+use Rattle.sessions.specs.Session.{resultsOf, stateOf}
 use Rattle.transcript.specs.declared.Written.{Written}
 
 -- "the line's number from 1, a space, and 0 or the refusal. .. Each printed line ends with byte 10."
@@ -47,13 +46,6 @@ isTooLong input = ltb mostRead (length input)
 -- "yields the line `too long` alone"
 abbrev pub tooLong : List ℕ
 tooLong = 116 ∷ 111 ∷ 111 ∷ space ∷ 108 ∷ 111 ∷ 110 ∷ 103 ∷ newline ∷ []
-
--- the results of an input's lines, and the state behind the state line; "It begins in F." An input that is too long has neither printed.
-unfoldable pub resultsOf : (input : List ℕ) → List ℕ
-resultsOf input = resultsFrom founding (linesOf input)
-
-unfoldable pub stateOf : (input : List ℕ) → State
-stateOf input = stateAfter founding (linesOf input)
 
 -- what is printed for the input
 unfoldable pub transcriptOf : (input : List ℕ) → List ℕ

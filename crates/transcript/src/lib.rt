@@ -218,7 +218,7 @@ pub fn write(input: &[u8], output: &mut [u8]) -> Written
     let ending = obey_lines(input, &mut results);
     let lines = ending.lines;
     let last = ending.state;
-    let counts = state::counts(last);
+    let counts = counts::counts(last);
     write_session(&results[0..lines], &counts, output)
 }
 

@@ -7,8 +7,8 @@ use Rattle.state.specs.declared.State.{State}
 use Rattle.records.specs.Record.{stateOf}
 use Rattle.machine.specs.Step.{replyOf}
 use Rattle.machine.specs.declared.Reply.{Reply}
-use Rattle.capi.specs.Interface.{answerOf, accessNumber}
-use Rattle.capi.proofs.Steps.{reply-is}
+use Rattle.interface.specs.Interface.{answerOf, accessNumber}
+use Rattle.interface.proofs.Steps.{reply-is}
 use Rattle.capi.proofs.panelrights_access.Statement.{statement}
 use Rattle.capi.proofs.panelrights_access.Tie as tie
 

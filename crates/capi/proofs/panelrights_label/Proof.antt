@@ -3,7 +3,7 @@
 use Prim.Native.Nat.{ℕ, _+_, _*_}
 use mathlib.Core.Path.{ap}
 use borrow.Author.Needs.{needs}
-use Rattle.site_file.specs.declared.Place.{Place}
+use Rattle.label_finder.specs.declared.Place.{Place}
 use Rattle.capi.proofs.panelrights_label.Statement.{statement}
 use Rattle.capi.proofs.panelrights_label.Tie as tie
 

@@ -13,7 +13,7 @@ use Rattle.state.proofs.Bools.{is-true, test}
 use Rattle.records.specs.Record.{isSized, numberFor, stored}
 use Rattle.site_file.specs.Reading.{readOf}
 use Rattle.site_file.specs.declared.Reading.{Reading}
-use Rattle.capi.specs.Interface.{fileNumber, fileBuffer}
+use Rattle.interface.specs.Interface.{fileNumber, fileBuffer}
 use Rattle.capi.proofs.panelrights_read_file.Statement.{statement}
 use Rattle.capi.proofs.panelrights_read_file.Tie as tie
 

@@ -13,8 +13,8 @@ use Rattle.records.proofs.Laws.{record-length, stored-sized}
 use Rattle.instructions.specs.Instructions.{Bytes}
 use Rattle.machine.specs.Step.{stepOf}
 use Rattle.machine.specs.declared.Outcome.{Outcome}
-use Rattle.capi.specs.Interface.{stepNumber, stepBuffer}
-use Rattle.capi.proofs.Steps.{number-is, obeyed, refused, accepted}
+use Rattle.interface.specs.Interface.{stepNumber, stepBuffer}
+use Rattle.interface.proofs.Steps.{number-is, obeyed, refused, accepted}
 use Rattle.capi.proofs.panelrights_step.Statement.{statement}
 use Rattle.capi.proofs.panelrights_step.Tie as tie
 

@@ -12,8 +12,8 @@ use lib.Dec.{eqb}
 use Rattle.state.specs.Site.{Shaped}
 use Rattle.state.proofs.Typed.{shaped-by-type}
 use Rattle.soundness.specs.Tests.{isSound}
-use Rattle.soundness.proofs.Laws.{sound-of-record}
-use Rattle.instructions.specs.Decode.{decodedNumber}
+use Rattle.instructions.specs.Instructions.{Bytes, fourBytes}
+use Rattle.instructions.specs.Decode.{decodeOf, decodedNumber}
 use Rattle.machine.specs.Step.{outcomeOf}
 use Rattle.instructions.specs.declared.Decoded.{Decoded}
 use Rattle.instructions.specs.declared.Decoded.the-variants.{Fits, NoCode, OutOfRange}
@@ -29,14 +29,28 @@ misfit-number (Fits x) (inr e) = absurd (omega arith)
 misfit-number NoCode k = refl
 misfit-number OutOfRange k = refl
 
-shaped : (c : tie.Start) → Shaped (c .args .t1)
-shaped c = shaped-by-type (c .args .t1) _ (c .good .0 .1 .1)
+shaped : (c : tie.Start) → Shaped (c .args .s)
+shaped c = shaped-by-type (c .args .s) _ (c .good .0 .1 .1)
 
-soundness : (c : tie.After-are-sound) (v : Bool) → not (c .are-sound .result) ≡ v → not (isSound (c .before .before .before .before .before .before .before .before .before .before .args .t1)) ≡ v
-soundness c v e = sym (ap not (c .are-sound .ensures ∙ sym (sound-of-record (c .before .before .before .before .before .before .before .before .before .before .args .t1) (shaped (c .before .before .before .before .before .before .before .before .before .before))))) ∙ e
+-- ---- what is known on the way
+unsound : (c : tie.Then1) → not (isSound (c .before .before .args .s)) ≡ true
+unsound c = sym (ap not (c .before .is-sound .ensures .0)) ∙ c .if1 .taken
 
-are-sound-requires : tie.Need-are-sound-requires
-are-sound-requires c κs = tt
+sound : (c : tie.Else1) → not (isSound (c .before .before .args .s)) ≡ false
+sound c = sym (ap not (c .before .is-sound .ensures .0)) ∙ c .if1 .left
+
+-- once the bytes fit an instruction: the record has its shape and is sound, and which instruction it is
+abbrev begun : tie.After-decoded → tie.Start
+begun c = c .before .before .before .before .before
+
+abbrev four-bytes : tie.Start → Bytes
+four-bytes c = fourBytes (c .args .code) (c .args .activator) (c .args .a) (c .args .b)
+
+fit : (c : tie.After-decoded) → decodeOf (four-bytes (begun c)) ≡ Fits (c .decoded .given .0 .0)
+fit c = sym (c .before .before .decode .ensures) ∙ c .decoded .given .1
+
+is-sound-requires : tie.Need-is-sound-requires
+is-sound-requires c κs = tt
 
 outcome-of-requires : tie.Need-outcome-of-requires
 outcome-of-requires c κs = tt
@@ -71,38 +85,47 @@ outcome-of-requires-4 c κs = tt
 outcome-of-requires-5 : tie.Need-outcome-of-requires-5
 outcome-of-requires-5 c κs = tt
 
+-- ---- what is returned
 returns : tie.Need-returns
-returns c = c .outcome-of .ensures ∙ step-unsound _ _ (soundness (c .before .before) true (c .before .if1 .taken))
+returns c = c .outcome-of .ensures ∙ step-unsound _ _ (unsound (c .before))
 
 returns-2 : tie.Need-returns-2
 returns-2 c =
+    let decoded = c .before .before .before in
+    let d = decoded .decode in
     c .outcome-of2 .ensures
-    ∙ (λ i. outcomeOf (c .before .misfit .ensures i) (c .before .before .before .before .before .before .before .before .before .before .before .before .before .before .before .args .t1))
-    ∙ step-misfit _ _ (c .before .before .before .decode .result) (soundness (c .before .before .before .before .before) false (c .before .before .before .before .if1 .left)) (c .before .before .before .decode .ensures) (misfit-number (c .before .before .before .decode .result) (c .before .before .match .keys2))
+    ∙ (λ i. outcomeOf (c .before .misfit .ensures i) (decoded .before .before .before .args .s))
+    ∙ step-misfit _ _ (d .result) (sound (decoded .before)) (d .ensures) (misfit-number (d .result) (c .before .before .match .keys2))
 
 returns-3 : tie.Need-returns-3
 returns-3 c =
+    let at = c .before .before .before .before in
     c .outcome-of3 .ensures
-    ∙ step-early _ _ (shaped (c .before .before .before .before .before .before .before .before .before .before .before .before .before .before .before .before .before .before .before .before .before .before .before .before .before .before .before .before .before .before .before .before .before .before .before)) _ (soundness (c .before .before .before .before .before .before .before .before .before .before .before .before .before .before .before .before .before .before .before .before .before .before .before .before .before) false (c .before .before .before .before .before .before .before .before .before .before .before .before .before .before .before .before .before .before .before .before .before .before .before .before .if1 .left)) (sym (c .before .before .before .before .before .before .before .before .before .before .before .before .before .before .before .before .before .before .before .before .before .before .before .decode .ensures) ∙ c .before .before .before .before .before .before .before .before .before .before .before .before .before .before .before .before .before .before .before .before .before .decoded .given .1)
-    _ (c .before .before .early-refusal .ensures) (c .before .if2 .taken)
+    ∙ step-early _ _ (shaped (begun at)) _ (sound (at .before .before .before)) (fit at) _ (c .before .before .early-refusal .ensures) (c .before .if2 .taken)
 
 returns-4 : tie.Need-returns-4
 returns-4 c =
+    let late = c .before .before in
+    let early = late .before .before .before in
+    let at = early .before .before in
     c .outcome-of4 .ensures
-    ∙ step-late _ _ (shaped (c .before .before .before .before .before .before .before .before .before .before .before .before .before .before .before .before .before .before .before .before .before .before .before .before .before .before .before .before .before .before .before .before .before .before .before .before .before .before)) _ (soundness (c .before .before .before .before .before .before .before .before .before .before .before .before .before .before .before .before .before .before .before .before .before .before .before .before .before .before .before .before) false (c .before .before .before .before .before .before .before .before .before .before .before .before .before .before .before .before .before .before .before .before .before .before .before .before .before .before .before .if1 .left)) (sym (c .before .before .before .before .before .before .before .before .before .before .before .before .before .before .before .before .before .before .before .before .before .before .before .before .before .before .decode .ensures) ∙ c .before .before .before .before .before .before .before .before .before .before .before .before .before .before .before .before .before .before .before .before .before .before .before .before .decoded .given .1)
-    _ _ _ (c .before .before .before .before .before .early-refusal .ensures) (c .before .before .before .before .if2 .left) (c .before .before .before .successor .ensures) (c .before .before .late-refusal .ensures) (c .before .if3 .taken)
+    ∙ step-late _ _ (shaped (begun at)) _ (sound (at .before .before .before)) (fit at) _ _ _ (early .early-refusal .ensures) (late .before .before .if2 .left)
+    (late .before .successor .ensures) (late .late-refusal .ensures) (c .before .if3 .taken)
 
 returns-5 : tie.Need-returns-5
 returns-5 c =
+    let late = c .before .before in
+    let early = late .before .before .before in
+    let at = early .before .before in
     c .outcome-of5 .ensures
-    ∙ step-accepted _ _ (shaped (c .before .before .before .before .before .before .before .before .before .before .before .before .before .before .before .before .before .before .before .before .before .before .before .before .before .before .before .before .before .before .before .before .before .before .before .before .before .before)) _ (soundness (c .before .before .before .before .before .before .before .before .before .before .before .before .before .before .before .before .before .before .before .before .before .before .before .before .before .before .before .before) false (c .before .before .before .before .before .before .before .before .before .before .before .before .before .before .before .before .before .before .before .before .before .before .before .before .before .before .before .if1 .left)) (sym (c .before .before .before .before .before .before .before .before .before .before .before .before .before .before .before .before .before .before .before .before .before .before .before .before .before .before .decode .ensures) ∙ c .before .before .before .before .before .before .before .before .before .before .before .before .before .before .before .before .before .before .before .before .before .before .before .before .decoded .given .1)
-    _ _ _ (c .before .before .before .before .before .early-refusal .ensures) (c .before .before .before .before .if2 .left) (c .before .before .before .successor .ensures) (c .before .before .late-refusal .ensures) (c .before .if3 .left)
+    ∙ step-accepted _ _ (shaped (begun at)) _ (sound (at .before .before .before)) (fit at) _ _ _ (early .early-refusal .ensures) (late .before .before .if2 .left)
+    (late .before .successor .ensures) (late .late-refusal .ensures) (c .before .if3 .left)
 
 pub step-spec : {M : Type 1} → statement M
 step-spec =
     tie.close
     (tie.spec
-    are-sound-requires
+    is-sound-requires
     outcome-of-requires
     returns
     decode-requires

@@ -12,7 +12,7 @@ use Rattle.state.specs.declared.State.{State}
 use Rattle.state.proofs.Checks.{met, passed, first-of-two}
 use Rattle.soundness.specs.Sound.{Sound}
 use Rattle.site_format.specs.Format.{labels, part}
-use Rattle.site_format.specs.Header.{headerChecks}
+use Rattle.site_header.specs.Header.{headerChecks}
 use Rattle.site_file.specs.Reading.{outOfOrder, stateIn, tableChecks, stateChecks, refusalOf, readingOf, readOf}
 use Rattle.site_file.specs.declared.Reading.{Reading}
 use Rattle.site_file.proofs.Laws.{read-sound}

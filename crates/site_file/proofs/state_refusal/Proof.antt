@@ -7,18 +7,16 @@ use mathlib.Core.List.{List}
 use Rattle.state.specs.Site.{Shaped}
 use Rattle.state.specs.declared.State.{State}
 use Rattle.state.proofs.Checks.{met, passed, none-met}
-use Rattle.soundness.specs.Rows.{objectsReached}
-use Rattle.soundness.specs.Tests.{isValid}
-use Rattle.soundness.proofs.Laws.{valid-by-objects}
+use Rattle.soundness.specs.Tests.{isWellFormed, isValid}
 use Rattle.label_tables.specs.Labels.{labelsListed}
 use Rattle.site_format.specs.Format.{labels, part}
 use Rattle.site_file.specs.Reading.{stateIn, noOwner, namesUnlisted, definedTwice}
 use Rattle.site_file.proofs.Held.{Derived, derived, shaped}
-use Rattle.site_file.proofs.Formed.{formed, by-record, by-labels}
+use Rattle.site_file.proofs.Formed.{by-record, by-labels}
 use Rattle.site_file.proofs.state_refusal.Statement.{statement}
 use Rattle.site_file.proofs.state_refusal.Tie as tie
 
--- 28 and 29, from what was told of the state that a file holds
+-- 28 from what was told of the state that a file holds
 module _ (s : State) (file : List ℕ) (held : s ≡ stateIn file) where
   lists : Derived s
   lists = subst Derived (sym held) (derived file)
@@ -26,18 +24,17 @@ module _ (s : State) (file : List ℕ) (held : s ≡ stateIn file) where
   shape : Shaped s
   shape = subst Shaped (sym held) (shaped file)
 
-  ill-formed : {told : Bool} → told ≡ formed s → not told ≡ true → (noOwner s || namesUnlisted s (part file labels) || definedTwice s) ≡ true
+  abbrev condition : Bool
+  condition = noOwner s || namesUnlisted s (part file labels) || definedTwice s
+
+  ill-formed : {told : Bool} → told ≡ isWellFormed s → not told ≡ true → condition ≡ true
   ill-formed = by-record s lists shape (part file labels)
 
-  labelled : {told listed : Bool} {table : List ℕ} (v : Bool) → told ≡ formed s → listed ≡ labelsListed (s .areas) table → table ≡ part file labels → not told ≡ false → not listed ≡ v
-      → (noOwner s || namesUnlisted s (part file labels) || definedTwice s) ≡ v
+  labelled : {told listed : Bool} {table : List ℕ} (v : Bool) → told ≡ isWellFormed s → listed ≡ labelsListed (s .areas) table → table ≡ part file labels → not told ≡ false → not listed ≡ v → condition ≡ v
   labelled v e k t = by-labels s lists shape (part file labels) v e (k ∙ ap (labelsListed (s .areas)) t)
 
-  reached : {told : Bool} (v : Bool) → told ≡ objectsReached (s .definitions) (s .structure) (s .imports) (s .exports) → not told ≡ v → not (isValid s) ≡ v
-  reached v e n = ap not (valid-by-objects s shape ∙ sym e) ∙ n
-
-are-well-formed-requires : tie.Need-are-well-formed-requires
-are-well-formed-requires c κs = tt
+is-well-formed-requires : tie.Need-is-well-formed-requires
+is-well-formed-requires c κs = tt
 
 labels-requires : tie.Need-labels-requires
 labels-requires c κs = tt
@@ -45,26 +42,34 @@ labels-requires c κs = tt
 all-listed-requires : tie.Need-all-listed-requires
 all-listed-requires c κs = tt
 
-objects-reached-requires : tie.Need-objects-reached-requires
-objects-reached-requires c κs = tt
+is-valid-requires : tie.Need-is-valid-requires
+is-valid-requires c κs = tt
 
--- both tests of 28 were passed
-formed-listed : (c : tie.Else2) → (noOwner (c .before .before .before .before .before .before .before .before .before .before .before .before .before .before .before .before .before .before .args .t1) || namesUnlisted (c .before .before .before .before .before .before .before .before .before .before .before .before .before .before .before .before .before .before .args .t1) (part (c .before .before .before .before .before .before .before .before .before .before .before .before .before .before .before .before .before .before .args .file .now) labels) || definedTwice (c .before .before .before .before .before .before .before .before .before .before .before .before .before .before .before .before .before .before .args .t1)) ≡ false
-formed-listed c = labelled _ _ (c .before .before .before .before .before .before .before .before .before .before .before .before .before .before .before .before .before .before .pre) false (c .before .before .before .before .before .before .before .are-well-formed .ensures) (c .before .all-listed .ensures) (c .before .before .labels .ensures) (c .before .before .before .before .before .before .if1 .left) (c .if2 .left)
+-- 28, where the record is well-formed: the labels decide
+by-listed : (c : tie.After-all-listed) (v : Bool) → not (c .all-listed .result) ≡ v
+    → let start = c .before .before .before .before .before .before .before .before in condition (start .args .t1) (start .args .file .now) (start .pre) ≡ v
+by-listed c v e =
+    let formed = c .before .before .before .before .before in
+    labelled _ _ (formed .before .before .before .pre) v (formed .before .is-well-formed .ensures) (c .all-listed .ensures) (c .before .labels .ensures) (formed .if1 .left) e
 
 returns : tie.Need-returns
-returns c = sym (met _ _ (ill-formed _ _ (c .before .before .before .before .before .before .before .before .before .before .before .before .pre) (c .before .are-well-formed .ensures) (c .if1 .taken)))
+returns c = sym (met _ _ (ill-formed _ _ (c .before .before .before .pre) (c .before .is-well-formed .ensures) (c .if1 .taken)))
 
 returns-2 : tie.Need-returns-2
-returns-2 c = sym (met _ _ (labelled _ _ (c .before .before .before .before .before .before .before .before .before .before .before .before .before .before .before .before .before .before .pre) true (c .before .before .before .before .before .before .before .are-well-formed .ensures) (c .before .all-listed .ensures) (c .before .before .labels .ensures) (c .before .before .before .before .before .before .if1 .left) (c .if2 .taken)))
+returns-2 c = sym (met _ _ (by-listed (c .before) true (c .if2 .taken)))
 
+-- past 28, validity decides 29
 returns-3 : tie.Need-returns-3
-returns-3 c = sym (passed _ _ (formed-listed (c .before .before .before .before .before .before .before .before .before .before)) ∙ met _ _ (reached _ _ (c .before .before .before .before .before .before .before .before .before .before .before .before .before .before .before .before .before .before .before .before .before .before .before .before .before .before .before .before .pre) true (c .before .objects-reached .ensures) (c .if3 .taken)))
+returns-3 c =
+    let listed = c .before .before in
+    sym (passed _ _ (by-listed (listed .before) false (listed .if2 .left)) ∙ met _ _ (sym (ap not (c .before .is-valid .ensures .0)) ∙ c .if3 .taken))
 
 returns-4 : tie.Need-returns-4
-returns-4 c = sym (passed _ _ (formed-listed (c .before .before .before .before .before .before .before .before .before .before)) ∙ passed _ _ (reached _ _ (c .before .before .before .before .before .before .before .before .before .before .before .before .before .before .before .before .before .before .before .before .before .before .before .before .before .before .before .before .pre) false (c .before .objects-reached .ensures) (c .if3 .left)) ∙ none-met)
+returns-4 c =
+    let listed = c .before .before in
+    sym (passed _ _ (by-listed (listed .before) false (listed .if2 .left)) ∙ passed _ _ (sym (ap not (c .before .is-valid .ensures .0)) ∙ c .if3 .left) ∙ none-met)
 
 pub state-refusal-spec : {M : Type 1} → statement M
 state-refusal-spec =
     tie.close
-    (tie.spec are-well-formed-requires returns labels-requires all-listed-requires returns-2 objects-reached-requires returns-3 returns-4)
+    (tie.spec is-well-formed-requires returns labels-requires all-listed-requires returns-2 is-valid-requires returns-3 returns-4)

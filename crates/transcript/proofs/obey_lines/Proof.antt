@@ -10,7 +10,7 @@ use lib.ListN.{length, drop, set}
 use Rattle.lines.specs.Lines.{firstLineOf}
 use Rattle.machine.specs.Step.{outcomeOf}
 use Rattle.machine.specs.declared.Outcome.{Outcome}
-use Rattle.transcript.specs.Session.{obeyed}
+use Rattle.sessions.specs.Session.{obeyed}
 use Rattle.transcript.proofs.Session.{Reached, reached-none, reached-more, reached-all, part-from, line-room, first-takes}
 use Rattle.transcript.proofs.obey_lines.Statement.{statement}
 use Rattle.transcript.proofs.obey_lines.Tie as tie

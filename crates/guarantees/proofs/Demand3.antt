@@ -1,0 +1,189 @@
+-- The third demand. A step keeps soundness (Kept), and keeps the pairs of an area whose owners are silent; so does a
+-- list.
+-- Assumes nothing.
+use Prim.Native.Nat.{ℕ}
+use mathlib.Core.Path.{_≡_, refl, sym, subst, _∙_}
+use mathlib.Core.Logic.{_⊎_, inl, inr}
+use mathlib.Core.Bool.{Bool, true, false, cond, not}
+use mathlib.Core.List.{List, [], _∷_}
+use native.Mathlib.Decide.{ℕ-discrete}
+use lib.Dec.{T, eqb}
+use borrow.Author.Tests.{eq-eqb, ne-eqb}
+use Rattle.state.specs.Site.{Kind, user, area, object, listed, withListed, Relation, owner, definition, structure, import, export, related, withPair, owns}
+use Rattle.state.specs.declared.State.{State}
+use Rattle.state.proofs.Bools.{fails, so}
+use Rattle.state.proofs.Laws.{list-keeps-pairs, related-else, related-other-relation}
+use Rattle.soundness.specs.Sound.{Sound}
+use Rattle.instructions.specs.Instructions.{Bytes, Target, theArea, pairOf, Picked, unknown, instruction, instructionOf}
+use Rattle.successors.specs.Successor.{withoutOwner, changed, successor, successorOf}
+use Rattle.state.specs.Checks.{firstMet}
+use Rattle.refusals.specs.Refusals.{decoding, refusals}
+use Rattle.machine.specs.Step.{refusalOf, stepOf, run}
+use Rattle.guarantees.specs.Demand3
+use Rattle.guarantees.specs.Demand3.{Silent, silent-end, silent-next, Guarantee}
+use Rattle.instructions.specs.declared.Instruction.{Instruction}
+use Rattle.instructions.specs.declared.Instruction.the-variants.{ListArea, UnlistArea, AddOwner, RemoveOwner, AddStructure, RemoveStructure, Define, RemoveDefinition, AddImport, RemoveImport, AddExport, RemoveExport}
+use Rattle.state.proofs.Checks.{numbered, Passed, all-passed}
+use Rattle.guarantees.proofs.Parts.{different}
+use Rattle.guarantees.proofs.Kept.{Accepted, accepted-sound}
+
+-- ---- one step
+-- The state after a step is the one before, or the successor of an instruction that is accepted.
+module _ (s : State) (bytes : Bytes) where
+  abbrev gives : Instruction → State
+  gives x = successor s x (bytes .activator) (bytes .a) (bytes .b)
+
+  abbrev Taken : State → Type 0
+  Taken t = (x : Instruction) × Accepted s x (bytes .activator) (bytes .a) (bytes .b) × (t ≡ gives x)
+
+  picked : (p : Picked) → Passed (decoding s bytes p) → Taken (successorOf s bytes p)
+  picked unknown q = absurd (fails (q .0) tt)
+  picked (instruction x) q = (
+    x,
+    record {
+      in-range = q .0;
+      known = q .1 .0;
+      named = q .1 .1 .0;
+      owned = q .1 .1 .1 .0;
+      new = q .1 .1 .1 .1 .0;
+      there = q .1 .1 .1 .1 .1 .0;
+      not-last = q .1 .1 .1 .1 .1 .1 .0;
+      not-used = q .1 .1 .1 .1 .1 .1 .1 .0;
+      reached = q .1 .1 .1 .1 .1 .1 .1 .1 .0;
+      valid = q .1 .1 .1 .1 .1 .1 .1 .1 .1 .0;
+    },
+    refl,
+  )
+
+  all-numbered : (p : Picked) → T (numbered (decoding s bytes p))
+  all-numbered unknown = tt
+  all-numbered (instruction x) = tt
+
+  accepted : firstMet (refusals s bytes) ≡ 0 → Taken (successorOf s bytes (instructionOf (bytes .code)))
+  accepted e = picked (instructionOf (bytes .code)) (all-passed (refusals s bytes) (all-numbered (instructionOf (bytes .code))) e .1)
+
+  pub stepped : (stepOf s bytes .state ≡ s) ⊎ Taken (stepOf s bytes .state)
+  unfolding stepOf refusalOf
+  stepped = go (ℕ-discrete (firstMet (refusals s bytes)) 0)
+    where
+      n : ℕ
+      n = firstMet (refusals s bytes)
+
+      go : Dec (n ≡ 0) → (cond (eqb n 0) (successorOf s bytes (instructionOf (bytes .code))) s ≡ s) ⊎ Taken (cond (eqb n 0) (successorOf s bytes (instructionOf (bytes .code))) s)
+      go (yes e) = rw (eq-eqb n 0 e) (inr (accepted e))
+      go (no f) = inl (rw (ne-eqb n 0 f))
+
+pub step-sound : (s : State) (bytes : Bytes) → Sound s → Sound (stepOf s bytes .state)
+step-sound s bytes h = go (stepped s bytes)
+  where
+    go : (stepOf s bytes .state ≡ s) ⊎ Taken s bytes (stepOf s bytes .state) → Sound (stepOf s bytes .state)
+    go (inl e) = rw e h
+    go (inr y) = rw (y .2) (accepted-sound s h (y .0) (bytes .activator) (bytes .a) (bytes .b) (y .1))
+
+-- ---- what a step leaves to an area
+-- the area's owner, definition, import and export pairs are the same
+record Same (s t : State) (p : ℕ) : Type 0 where
+  pairs : (r : Relation) → (r ≡ structure → ⊥) → (i : ℕ) → related t r i p ≡ related s r i p
+
+same-pair : (s : State) (q : Relation) (i a : ℕ) (v : Bool) (p : ℕ) → (p ≡ a → ⊥) → Same s (withPair s q i a v) p
+same-pair s q i a v p ne = record { pairs = λ r ns n. go r n (related-else s q r i a n p v) }
+  where
+    go : (r : Relation) (n : ℕ) → ((r ≡ q) × (n ≡ i) × (p ≡ a)) ⊎ (related (withPair s q i a v) r n p ≡ related s r n p) → related (withPair s q i a v) r n p ≡ related s r n p
+    go r n (inl e) = absurd (ne (e .2))
+    go r n (inr e) = e
+
+same-structure : (s : State) (i j : ℕ) (v : Bool) (p : ℕ) → Same s (withPair s structure i j v) p
+same-structure s i j v p = record { pairs = λ r ns n. related-other-relation s structure r i j n p v ns }
+
+same-list : (s : State) (k : Kind) (i : ℕ) (v : Bool) (p : ℕ) → Same s (withListed s k i v) p
+same-list s k i v p = record { pairs = λ r ns n. list-keeps-pairs s k i v r n p }
+
+same-none : (s : State) (p : ℕ) → Same s s p
+same-none s p = record { pairs = λ r ns i. refl }
+
+same-then : {s t w : State} {p : ℕ} → Same s t p → Same t w p → Same s w p
+same-then f g = record { pairs = λ r ns i. g .pairs r ns i ∙ f .pairs r ns i }
+
+-- Only structure pairs change for an area other than a.
+changed-same : (s : State) (x : Target) (v : Bool) (u a b p : ℕ) → (p ≡ a → ⊥) → Same s (changed s x v u a b) p
+changed-same s theArea true u a b p ne = same-then (same-list s area a true p) (same-pair (withListed s area a true) owner u a true p ne)
+changed-same s theArea false u a b p ne =
+    same-then (same-then (same-pair s owner u a false p ne) (same-list (withPair s owner u a false) user u _ p)) (same-list (withoutOwner s u a) area a false p)
+changed-same s (pairOf owner) true u a b p ne = same-then (same-list s user b true p) (same-pair (withListed s user b true) owner b a true p ne)
+changed-same s (pairOf owner) false u a b p ne = same-then (same-pair s owner b a false p ne) (same-list (withPair s owner b a false) user b _ p)
+changed-same s (pairOf definition) true u a b p ne = same-then (same-list s object b true p) (same-pair (withListed s object b true) definition b a true p ne)
+changed-same s (pairOf definition) false u a b p ne = same-then (same-list s object b false p) (same-pair (withListed s object b false) definition b a false p ne)
+changed-same s (pairOf structure) true u a b p ne = same-structure s a b true p
+changed-same s (pairOf structure) false u a b p ne = same-structure s a b false p
+changed-same s (pairOf import) true u a b p ne = same-pair s import b a true p ne
+changed-same s (pairOf import) false u a b p ne = same-pair s import b a false p ne
+changed-same s (pairOf export) true u a b p ne = same-pair s export b a true p ne
+changed-same s (pairOf export) false u a b p ne = same-pair s export b a false p ne
+
+-- An area that is listed and not the activator's is not area a, but for a structure pair.
+module _ (s : State) (u a b p : ℕ) (here : T (listed s area p)) (silent : T (owns s u p) → ⊥) where
+  his-area : (t : Target) (v : Bool) → not (owns s u a) ≡ false → Same s (changed s t v u a b) p
+  his-area t v e = changed-same s t v u a b p (λ q. silent (rw q (so (owns s u a) e)))
+
+  taken-same : (x : Instruction) → Accepted s x u a b → Same s (successor s x u a b) p
+  taken-same ListArea y = changed-same s theArea true u a b p (λ q. fails (y .new) (rw q at here))
+  taken-same UnlistArea y = his-area theArea false (y .owned)
+  taken-same AddOwner y = his-area (pairOf owner) true (y .owned)
+  taken-same RemoveOwner y = his-area (pairOf owner) false (y .owned)
+  taken-same AddStructure y = same-structure s a b true p
+  taken-same RemoveStructure y = same-structure s a b false p
+  taken-same Define y = his-area (pairOf definition) true (y .owned)
+  taken-same RemoveDefinition y = his-area (pairOf definition) false (y .owned)
+  taken-same AddImport y = his-area (pairOf import) true (y .owned)
+  taken-same RemoveImport y = his-area (pairOf import) false (y .owned)
+  taken-same AddExport y = his-area (pairOf export) true (y .owned)
+  taken-same RemoveExport y = his-area (pairOf export) false (y .owned)
+
+step-same : (s : State) (bytes : Bytes) (p : ℕ) → T (listed s area p) → (T (owns s (bytes .activator) p) → ⊥) → Same s (stepOf s bytes .state) p
+step-same s bytes p here silent = go (stepped s bytes)
+  where
+    go : (stepOf s bytes .state ≡ s) ⊎ Taken s bytes (stepOf s bytes .state) → Same s (stepOf s bytes .state) p
+    go (inl e) = rw e (same-none s p)
+    go (inr y) = rw (y .2) (taken-same s (bytes .activator) (bytes .a) (bytes .b) p here silent (y .0) (y .1))
+
+-- ---- a list
+-- an area that keeps its owners is listed still
+listed-still : (s t : State) (p : ℕ) → Sound s → Sound t → Same s t p → T (listed s area p) → T (listed t area p)
+listed-still s t p h k same here =
+    let o = h .acceptable .areas p here in k .consistent owner (o .0) p (subst T (sym (same .pairs owner (different owner structure tt) (o .0))) (o .1)) .second
+
+silent-still : (s t : State) (p : ℕ) → Same s t p → (l : List Bytes) → Silent s p l → Silent t p l
+silent-still s t p same [] silent-end = silent-end
+silent-still s t p same (bytes ∷ rest) (silent-next quiet others) =
+    silent-next (λ o. quiet (subst T (same .pairs owner (different owner structure tt) (bytes .activator)) o)) (silent-still s t p same rest others)
+
+run-sound : (s : State) (l : List Bytes) → Sound s → Sound (run s l)
+unfolding run
+run-sound s [] h = h
+run-sound s (bytes ∷ rest) h = run-sound (stepOf s bytes .state) rest (step-sound s bytes h)
+
+run-same : (s : State) (l : List Bytes) (p : ℕ) → Sound s → T (listed s area p) → Silent s p l → Same s (run s l) p
+unfolding run
+run-same s [] p h here silent-end = same-none s p
+run-same s (bytes ∷ rest) p h here (silent-next quiet others) =
+    let t = stepOf s bytes .state in
+    let k = step-sound s bytes h in
+    let same = step-same s bytes p here quiet in
+    same-then same (run-same t rest p k (listed-still s t p h k same here) (silent-still s t p same rest others))
+
+pub demand-3 : Demand3.Demand3
+demand-3 s l h = record { sound = run-sound s l h; lending-guarantee = guarantee }
+  where
+    guarantee : (p : ℕ) → T (listed s area p) → Silent s p l → Guarantee s (run s l) p
+    guarantee p here silent =
+        let same = run-same s l p h here silent in
+        let k = run-sound s l h in
+        record {
+          still-listed = listed-still s (run s l) p h k same here;
+          owners = same .pairs owner (different owner structure tt);
+          objects = same .pairs definition (different definition structure tt);
+          importing = same .pairs import (different import structure tt);
+          exporting = same .pairs export (different export structure tt);
+          traced-imports = λ o t. k .valid .imported o p (subst T (sym (same .pairs import (different import structure tt) o)) t);
+          traced-exports = λ o t. k .valid .exported o p (subst T (sym (same .pairs export (different export structure tt) o)) t);
+        }

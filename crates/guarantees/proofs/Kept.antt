@@ -1,0 +1,350 @@
+-- An instruction that is accepted in a sound state gives a sound state.
+--     Accepted                 what it means that no check is met
+--     accepted-sound           the claim, one clause a code
+-- Assumes nothing.
+use Prim.Native.Nat.{ℕ, _<_}
+use mathlib.Core.Path.{_≡_, refl, sym, subst, _∙_}
+use mathlib.Core.Logic.{_⊎_, inl, inr, ⊎-elim}
+use mathlib.Core.Bool.{Bool, true, false, _&&_, _||_, not}
+use native.Mathlib.Decide.{ℕ-discrete}
+use lib.Dec.{T, eqb, ltb}
+use borrow.Author.Tests.{eqb-true, eq-eqb, ltb-true}
+use Rattle.state.specs.Site.{Kind, user, area, object, limit, listed, withListed, Relation, owner, definition, structure, import, export, firstKind, related, withPair, owns, defines, Shaped}
+use Rattle.state.specs.Walk.{someMember, somePair, hasFirst, hasSecond}
+use Rattle.state.specs.declared.State.{State}
+use Rattle.state.proofs.Bools.{is-true, holds, fails, and-both, and-left, and-right, not-so, so-not, so, neither, fails-both}
+use Rattle.state.proofs.Laws.{listed-same, listed-other, listed-else, list-shaped, unlist-adds-none, unlisted-gone, related-same, related-other, related-else, relate-shaped, add-keeps-pairs, remove-adds-none, removed-gone, others-stay, some-member, some-pair, has-first, has-second, listed-inside}
+use Rattle.access.specs.Lending.{lending}
+use Rattle.access.specs.Answer.{access}
+use Rattle.access.proofs.Laws.{access-is-defined}
+use Rattle.soundness.specs.Sound.{Named, DefinedOnce, Valid, Sound}
+use Rattle.soundness.specs.Tests.{isValid}
+use Rattle.soundness.proofs.Laws.{valid-decided}
+use Rattle.instructions.specs.Instructions.{theArea, row}
+use Rattle.instructions.specs.Decode.{outOfRange}
+use Rattle.successors.specs.Successor.{withoutOwner, successor}
+use Rattle.refusals.specs.Refusals.{missing, entitled, present, absent, soleOwner, onlyArea, isLast, otherOwner, inUse, isEntry, bearsAccess}
+use Rattle.instructions.specs.declared.Instruction.{Instruction}
+use Rattle.instructions.specs.declared.Instruction.the-variants.{ListArea, UnlistArea, AddOwner, RemoveOwner, AddStructure, RemoveStructure, Define, RemoveDefinition, AddImport, RemoveImport, AddExport, RemoveExport}
+use Rattle.guarantees.proofs.Parts.{different, different-kind, consistent-add, consistent-remove, consistent-list, Unnamed, consistent-unlist, consistent-without, once-same, acceptable-pair, acceptable-more, users-without, areas-without, valid-same, valid-add}
+
+-- ---- truth values of a check that is not met
+both-so : (p q : Bool) → not (p && q) ≡ false → T p × T q
+both-so p q e = let t = so (p && q) e in (and-left p q t, and-right p q t)
+
+none-of-six : (p q r t v w : Bool) → p || q || r || t || v || w ≡ false
+    → (p ≡ false) × (q ≡ false) × (r ≡ false) × (t ≡ false) × (v ≡ false) × (w ≡ false)
+none-of-six p q r t v w e =
+    let e5 = neither (p || q || r || t || v) w e in
+    let e4 = neither (p || q || r || t) v (e5 .0) in
+    let e3 = neither (p || q || r) t (e4 .0) in
+    let e2 = neither (p || q) r (e3 .0) in
+    let e1 = neither p q (e2 .0) in
+    (e1 .0, e1 .1, e2 .1, e3 .1, e4 .1, e5 .1)
+
+-- the operands are in range, and no check is met
+pub record Accepted (s : State) (x : Instruction) (u a b : ℕ) : Type 0 where
+  pub in-range : outOfRange (row x .operand) u a b ≡ false
+  pub known : not (listed s user u) ≡ false
+  pub named : missing s (row x .lookup) a b ≡ false
+  pub owned : not (entitled s (row x .mustOwn) u a b) ≡ false
+  pub new : row x .adds && present s (row x .target) a b ≡ false
+  pub there : not (row x .adds) && absent s (row x .target) a b ≡ false
+  pub not-last : not (row x .adds) && isLast s (row x .target) a b ≡ false
+  pub not-used : not (row x .adds) && inUse s (row x .target) u a ≡ false
+  pub reached : row x .adds && isEntry (row x .target) && not (access (lending (successor s x u a b) b) a) ≡ false
+  pub valid : not (row x .adds) && bearsAccess (row x .target) && not (isValid (successor s x u a b)) ≡ false
+
+module _ (s : State) (h : Sound s) where
+  -- a number that is now listed is the new one, or was listed
+  now-listed : (k : Kind) (i n : ℕ) → T (listed (withListed s k i true) k n) → (n ≡ i) ⊎ T (listed s k n)
+  now-listed k i n t = go (listed-else s k k i n true)
+    where
+      go : ((k ≡ k) × (n ≡ i)) ⊎ (listed (withListed s k i true) k n ≡ listed s k n) → (n ≡ i) ⊎ T (listed s k n)
+      go (inl e) = inl (e .1)
+      go (inr e) = inr (subst T e t)
+
+  -- codes 1 and 3: a new owner pair, whose user or area is listed with it
+  abbrev owner-more : Kind → (i u a : ℕ) → State
+  owner-more k i u a = withPair (withListed s k i true) owner u a true
+
+  owner-add : (k : Kind) (i u a : ℕ) → T (listed (withListed s k i true) user u) → T (listed (withListed s k i true) area a)
+      → ((v : ℕ) → T (listed (withListed s k i true) user v) → (v ≡ u) ⊎ T (listed s user v))
+      → ((c : ℕ) → T (listed (withListed s k i true) area c) → (c ≡ a) ⊎ T (listed s area c))
+      → ((o : ℕ) → T (listed (owner-more k i u a) object o) → T (listed s object o)) → Sound (owner-more k i u a)
+  owner-add k i u a hu ha new-user new-area old =
+      record {
+        shaped = relate-shaped t owner u a true sh;
+        consistent = consistent-add t owner u a (consistent-list s k i (h .consistent)) (record { first = hu; second = ha });
+        acceptable =
+            acceptable-more s (owner-more k i u a) u a (h .acceptable)
+            (holds (related-same t owner u a true sh (listed-inside t user u sh hu) (listed-inside t area a sh ha)))
+            (λ v c p. add-keeps-pairs t owner owner u a v c p) new-user new-area
+            (λ o q. once-same s (owner-more k i u a) o (λ c. refl) (h .acceptable .objects o (old o q)));
+        some-area = (a, ha);
+        valid = valid-same s (owner-more k i u a) (λ o. refl) (h .valid);
+      }
+    where
+      t : State
+      t = withListed s k i true
+
+      sh : Shaped t
+      sh = list-shaped s k i true (h .shaped)
+
+  -- codes 2 and 4: a lost owner pair
+  shaped-without : (u a : ℕ) → Shaped (withoutOwner s u a)
+  shaped-without u a = list-shaped (withPair s owner u a false) user u _ (relate-shaped s owner u a false (h .shaped))
+
+  -- code 4 leaves another owner
+  other-owner : (u a : ℕ) → soleOwner s u a ≡ false → (v : ℕ) × T (owns (withoutOwner s u a) v a)
+  other-owner u a e =
+      let r = some-pair (s .owners) (λ v c. not (not (eqb c a) || eqb v u)) .0 (so (somePair (s .owners) (λ v c. not (not (eqb c a) || eqb v u))) e) in
+      let f = fails-both (eqb (r .1) a) (eqb (r .0) u) (r .3) in
+      let at : r .1 ≡ a = eqb-true (r .1) a (is-true (eqb (r .1) a) (f .0)) in
+      (r .0, others-stay s owner owner u a (r .0) a false (λ t q n. f .1 (holds (eq-eqb (r .0) u q))) (rw at at (r .2)))
+
+  owner-remove : (u a : ℕ) → soleOwner s u a ≡ false → Sound (withoutOwner s u a)
+  owner-remove u a e =
+      record {
+        shaped = shaped-without u a;
+        consistent = consistent-without s u a (h .consistent);
+        acceptable =
+            record {
+              users = users-without s u a (h .shaped) (h .consistent) (h .acceptable);
+              areas = λ c t. go c t (ℕ-discrete c a);
+              objects = λ o t. once-same s (withoutOwner s u a) o (λ c. refl) (h .acceptable .objects o t);
+            };
+        some-area = h .some-area;
+        valid = valid-same s (withoutOwner s u a) (λ o. refl) (h .valid);
+      }
+    where
+      go : (c : ℕ) → T (listed s area c) → Dec (c ≡ a) → (v : ℕ) × T (owns (withoutOwner s u a) v c)
+      go c t (yes q) = rw q (other-owner u a e)
+      go c t (no ne) = areas-without s u a (h .shaped) (h .consistent) (h .acceptable) c ne t
+
+  -- code 2: the area that is unlisted is named by no pair
+  abbrev area-less : (u a : ℕ) → State
+  area-less u a = withListed (withoutOwner s u a) area a false
+
+  module _ (u a : ℕ) (e : inUse s theArea u a ≡ false) where
+    -- in the order of refusal 9
+    unused : (otherOwner s u a ≡ false) × (hasSecond (s .definitions) a ≡ false) × (hasFirst (s .structure) a ≡ false) × (hasSecond (s .structure) a ≡ false)
+        × (hasSecond (s .imports) a ≡ false) × (hasSecond (s .exports) a ≡ false)
+    unused =
+        none-of-six (otherOwner s u a) (hasSecond (s .definitions) a) (hasFirst (s .structure) a) (hasSecond (s .structure) a) (hasSecond (s .imports) a)
+        (hasSecond (s .exports) a) e
+
+    no-owner : (v : ℕ) → T (owns (withoutOwner s u a) v a) → ⊥
+    no-owner v t = go (ℕ-discrete v u)
+      where
+        go : Dec (v ≡ u) → ⊥
+        go (yes q) = removed-gone s owner u a (h .shaped) (rw q at t)
+        go (no ne) =
+            fails (unused .0)
+            (some-pair (s .owners) (λ w c. eqb c a && not (eqb w u)) .1
+            (v, a, remove-adds-none s owner owner u a v a t, and-both (eqb a a) (not (eqb v u)) (holds (eq-eqb a a refl)) (so-not (eqb v u) (λ q. ne (eqb-true v u (is-true (eqb v u) q))))))
+
+    first-named : (t : Relation) (n : ℕ) → firstKind t ≡ area → T (related (withoutOwner s u a) t a n) → ⊥
+    first-named owner n k p = different-kind user area tt k
+    first-named definition n k p = different-kind object area tt k
+    first-named structure n k p = fails (unused .2) (has-first (s .structure) a .1 (n, p))
+    first-named import n k p = different-kind object area tt k
+    first-named export n k p = different-kind object area tt k
+
+    second-named : (t : Relation) (m : ℕ) → T (related (withoutOwner s u a) t m a) → ⊥
+    second-named owner m p = no-owner m p
+    second-named definition m p = fails (unused .1) (has-second (s .definitions) a .1 (m, p))
+    second-named structure m p = fails (unused .3) (has-second (s .structure) a .1 (m, p))
+    second-named import m p = fails (unused .4) (has-second (s .imports) a .1 (m, p))
+    second-named export m p = fails (unused .5) (has-second (s .exports) a .1 (m, p))
+
+    area-unnamed : Unnamed (withoutOwner s u a) area a
+    area-unnamed = record { not-first = first-named; not-second = λ t m k p. second-named t m p }
+
+  -- and it is not the only one
+  other-area : (u a : ℕ) → onlyArea s a ≡ false → (c : ℕ) × T (listed (area-less u a) area c)
+  other-area u a e =
+      let r = some-member (s .areas) (λ c. not (eqb c a)) .0 (so (someMember (s .areas) (λ c. not (eqb c a))) e) in
+      let ne : r .0 ≡ a → ⊥ = λ q. not-so (eqb (r .0) a) (r .2) (holds (eq-eqb (r .0) a q)) in
+      (r .0, subst T (sym (listed-other (withoutOwner s u a) area a (r .0) false ne)) (r .1))
+
+  area-remove : (u a : ℕ) → onlyArea s a ≡ false → inUse s theArea u a ≡ false → Sound (area-less u a)
+  area-remove u a more e =
+      record {
+        shaped = list-shaped (withoutOwner s u a) area a false (shaped-without u a);
+        consistent = consistent-unlist (withoutOwner s u a) area a false (consistent-without s u a (h .consistent)) (area-unnamed u a e);
+        acceptable =
+            record {
+              users = users-without s u a (h .shaped) (h .consistent) (h .acceptable);
+              areas = λ c t. go c t (ℕ-discrete c a);
+              objects = λ o t. once-same s (area-less u a) o (λ c. refl) (h .acceptable .objects o t);
+            };
+        some-area = other-area u a more;
+        valid = valid-same s (area-less u a) (λ o. refl) (h .valid);
+      }
+    where
+      go : (c : ℕ) → T (listed (area-less u a) area c) → Dec (c ≡ a) → (v : ℕ) × T (owns (area-less u a) v c)
+      go c t (yes q) = absurd (unlisted-gone (withoutOwner s u a) area a (shaped-without u a) (rw q at t))
+      go c t (no ne) =
+          areas-without s u a (h .shaped) (h .consistent) (h .acceptable) c ne (unlist-adds-none (withoutOwner s u a) area area a c t)
+
+  -- code 7: a new object, defined in one area
+  abbrev object-more : (a b : ℕ) → State
+  object-more a b = withPair (withListed s object b true) definition b a true
+
+  object-add : (a b : ℕ) → b < limit object → T (listed s area a) → listed s object b ≡ false → Sound (object-more a b)
+  object-add a b hb ha new =
+      record {
+        shaped = relate-shaped t definition b a true sh;
+        consistent = consistent-add t definition b a (consistent-list s object b (h .consistent)) (record { first = here; second = ha });
+        acceptable = record { users = h .acceptable .users; areas = h .acceptable .areas; objects = λ o q. once o q (ℕ-discrete o b) };
+        some-area = h .some-area;
+        valid = valid-add t definition b a (λ e. absurd (no-entry e)) (valid-same s t (λ o. refl) (h .valid));
+      }
+    where
+      t : State
+      t = withListed s object b true
+
+      sh : Shaped t
+      sh = list-shaped s object b true (h .shaped)
+
+      here : T (listed t object b)
+      here = holds (listed-same s object b true (h .shaped) hb)
+
+      no-entry : (import ≡ definition) ⊎ (export ≡ definition) → ⊥
+      no-entry (inl e) = different import definition tt e
+      no-entry (inr e) = different export definition tt e
+
+      only : (c : ℕ) → T (defines (object-more a b) b c) → ((definition ≡ definition) × (b ≡ b) × (c ≡ a)) ⊎ (defines (object-more a b) b c ≡ defines s b c) → c ≡ a
+      only c p (inl e) = e .2
+      only c p (inr e) = absurd (fails new (h .consistent definition b c (subst T e p) .first))
+
+      before : (o : ℕ) → (o ≡ b → ⊥) → (o ≡ b) ⊎ T (listed s object o) → T (listed s object o)
+      before o ne (inl e) = absurd (ne e)
+      before o ne (inr q) = q
+
+      once : (o : ℕ) → T (listed t object o) → Dec (o ≡ b) → DefinedOnce (object-more a b) o
+      once o q (yes e) =
+          rw e
+          (record {
+            place = a;
+            defined = holds (related-same t definition b a true sh hb (listed-inside s area a (h .shaped) ha));
+            only = λ c p. only c p (related-else t definition definition b a b c true);
+          })
+      once o q (no ne) =
+          once-same s (object-more a b) o (λ c. related-other t definition b a o c true (λ e q. ne e))
+          (h .acceptable .objects o (before o ne (now-listed object b o q)))
+
+  -- code 8: an object is no longer defined, and no entry of it is left
+  abbrev object-less : (a b : ℕ) → State
+  object-less a b = withPair (withListed s object b false) definition b a false
+
+  object-remove : (a b : ℕ) → T (defines s b a) → Valid (object-less a b) → Sound (object-less a b)
+  object-remove a b p v =
+      record {
+        shaped = list-shaped t object b false sh;
+        consistent =
+            consistent-unlist t object b false (consistent-remove s definition b a (h .consistent))
+            (record { not-first = named; not-second = λ r m k q. different-kind area object tt k });
+        acceptable = record { users = h .acceptable .users; areas = h .acceptable .areas; objects = λ o q. once o q (ℕ-discrete o b) };
+        some-area = h .some-area;
+        valid = v;
+      }
+    where
+      t : State
+      t = withPair s definition b a false
+
+      sh : Shaped t
+      sh = relate-shaped s definition b a false (h .shaped)
+
+      d : DefinedOnce s b
+      d = h .acceptable .objects b (h .consistent definition b a p .first)
+
+      undefined : (c : ℕ) → T (defines t b c) → ⊥
+      undefined c q =
+          let here : c ≡ a = d .only c (remove-adds-none s definition definition b a b c q) ∙ sym (d .only a p) in
+          removed-gone s definition b a (h .shaped) (rw here at q)
+
+      unreached : (c : ℕ) → T (access (lending t b) c) → ⊥
+      unreached c q = let w = access-is-defined (lending t b) c q in undefined (w .0) (w .2)
+
+      named : (r : Relation) (n : ℕ) → firstKind r ≡ object → T (related t r b n) → ⊥
+      named owner n k q = different-kind user object tt k
+      named definition n k q = undefined n q
+      named structure n k q = different-kind area object tt k
+      named import n k q = unreached n (v .imported b n q)
+      named export n k q = unreached n (v .exported b n q)
+
+      once : (o : ℕ) → T (listed (object-less a b) object o) → Dec (o ≡ b) → DefinedOnce (object-less a b) o
+      once o q (yes e) = absurd (unlisted-gone s object b (h .shaped) (rw e at q))
+      once o q (no ne) =
+          once-same s (object-less a b) o (λ c. related-other s definition b a o c false (λ e q. ne e))
+          (h .acceptable .objects o (unlist-adds-none s object object b o q))
+
+  -- codes 5, 9, 11, and 6, 10, 12: a pair that is neither an owner nor a definition pair
+  module _ (r : Relation) (no-owner : owner ≡ r → ⊥) (no-definition : definition ≡ r → ⊥) (i j : ℕ) where
+    some-area-pair : (v : Bool) → (c : ℕ) × T (listed (withPair s r i j v) area c)
+    some-area-pair v = (h .some-area .0, h .some-area .1)
+
+    pair-add : Named s r i j → ((import ≡ r) ⊎ (export ≡ r) → T (access (lending (withPair s r i j true) i) j)) → Sound (withPair s r i j true)
+    pair-add names entry =
+        record {
+          shaped = relate-shaped s r i j true (h .shaped);
+          consistent = consistent-add s r i j (h .consistent) names;
+          acceptable = acceptable-pair s r i j true no-owner no-definition (h .acceptable);
+          some-area = some-area-pair true;
+          valid = valid-add s r i j entry (h .valid);
+        }
+
+    pair-remove : Valid (withPair s r i j false) → Sound (withPair s r i j false)
+    pair-remove v =
+        record {
+          shaped = relate-shaped s r i j false (h .shaped);
+          consistent = consistent-remove s r i j (h .consistent);
+          acceptable = acceptable-pair s r i j false no-owner no-definition (h .acceptable);
+          some-area = some-area-pair false;
+          valid = v;
+        }
+
+  -- codes 9 and 11: an entry of object b, whose area a has access
+  entry-add : (r : Relation) → (owner ≡ r → ⊥) → (definition ≡ r → ⊥) → firstKind r ≡ object → (a b : ℕ)
+      → not (listed s area a && listed s object b) ≡ false → not (access (lending (withPair s r b a true) b) a) ≡ false → Sound (withPair s r b a true)
+  entry-add r no-owner no-definition kind a b names reaches =
+      let n = both-so (listed s area a) (listed s object b) names in
+      pair-add r no-owner no-definition b a (record { first = subst (λ (k : Kind). T (listed s k b)) (sym kind) (n .1); second = n .0 })
+      (λ e. so (access (lending (withPair s r b a true) b) a) reaches)
+
+  -- codes 6, 10 and 12: a pair whose loss leaves the state valid
+  valid-cut : (r : Relation) → (owner ≡ r → ⊥) → (definition ≡ r → ⊥) → (i j : ℕ) → not (isValid (withPair s r i j false)) ≡ false → Sound (withPair s r i j false)
+  valid-cut r no-owner no-definition i j valid =
+      pair-remove r no-owner no-definition i j (valid-decided (withPair s r i j false) .0 (so (isValid (withPair s r i j false)) valid))
+
+  -- ---- the twelve
+  in-range : (o p q : Bool) → not (o && p && q) ≡ false → T p × T q
+  in-range o p q e = let t = so (o && p && q) e in (and-right o p (and-left (o && p) q t), and-right (o && p) q t)
+
+  below : (n m : ℕ) → T (ltb n m) → n < m
+  below n m t = ltb-true n m (is-true (ltb n m) t)
+
+  pub accepted-sound : (x : Instruction) (u a b : ℕ) → Accepted s x u a b → Sound (successor s x u a b)
+  accepted-sound ListArea u a b y =
+      let ha = holds (listed-same s area a true (h .shaped) (below a (limit area) (in-range (ltb u (limit user)) (ltb a (limit area)) (eqb b 0) (y .in-range) .0))) in
+      owner-add area a u a (so (listed s user u) (y .known)) ha (λ v t. inr t) (λ c t. now-listed area a c t) (λ o t. t)
+  accepted-sound UnlistArea u a b y = area-remove u a (y .not-last) (y .not-used)
+  accepted-sound AddOwner u a b y =
+      let hb = holds (listed-same s user b true (h .shaped) (below b (limit user) (in-range (ltb u (limit user)) (ltb a (limit area)) (ltb b (limit user)) (y .in-range) .1))) in
+      owner-add user b b a hb (so (listed s area a) (y .named)) (λ v t. now-listed user b v t) (λ c t. inr t) (λ o t. t)
+  accepted-sound RemoveOwner u a b y = owner-remove b a (y .not-last)
+  accepted-sound AddStructure u a b y =
+      let n = both-so (listed s area a) (listed s area b) (y .named) in
+      pair-add structure (different owner structure tt) (different definition structure tt) a b (record { first = n .0; second = n .1 })
+      (λ e. ⊎-elim (λ q. absurd (different import structure tt q)) (λ q. absurd (different export structure tt q)) e)
+  accepted-sound RemoveStructure u a b y = valid-cut structure (different owner structure tt) (different definition structure tt) a b (y .valid)
+  accepted-sound Define u a b y =
+      object-add a b (below b (limit object) (in-range (ltb u (limit user)) (ltb a (limit area)) (ltb b (limit object)) (y .in-range) .1)) (so (listed s area a) (y .named)) (y .new)
+  accepted-sound RemoveDefinition u a b y =
+      object-remove a b (so (defines s b a) (y .there)) (valid-decided (object-less a b) .0 (so (isValid (object-less a b)) (y .valid)))
+  accepted-sound AddImport u a b y = entry-add import (different owner import tt) (different definition import tt) refl a b (y .named) (y .reached)
+  accepted-sound RemoveImport u a b y = valid-cut import (different owner import tt) (different definition import tt) b a (y .valid)
+  accepted-sound AddExport u a b y = entry-add export (different owner export tt) (different definition export tt) refl a b (y .named) (y .reached)
+  accepted-sound RemoveExport u a b y = valid-cut export (different owner export tt) (different definition export tt) b a (y .valid)

@@ -1,0 +1,6 @@
+-- Demand3 and Examples have the claims of specs/. The others are this crate's own: Parts for what an update does to
+-- soundness, Kept for the soundness of each successor.
+mod Parts
+mod Kept
+pub mod Demand3
+pub mod Examples

@@ -1,0 +1,4 @@
+-- What a reader of this crate believes: the third demand (Demand3), and the examples of document 01 with the numbers
+-- that it gives them (Examples).
+pub mod Demand3
+pub mod Examples

@@ -1,0 +1,154 @@
+-- The claims of specs/Claims.antt, each proved under its name.
+-- Assumes nothing.
+use Prim.Native.Nat.{ℕ, _+_, _*_, _≤_}
+use mathlib.Core.Path.{_≡_, sym, ap, subst, _∙_}
+use mathlib.Core.Logic.{_⊎_, inl, inr}
+use mathlib.Core.Bool.{Bool, true, false, _&&_, _||_, not, cond}
+use mathlib.Core.List.{[], _∷_}
+use native.Mathlib.Omega.{arith}
+use native.Mathlib.Decide.{ℕ-discrete}
+use lib.Dec.{T, eqb, ltb, eqb→eq, lt→ltb}
+use lib.ListN.{length}
+use borrow.Author.Tests.{le-ltb}
+use Rattle.state.specs.Checks.{firstMet}
+use Rattle.state.specs.Site.{founding}
+use Rattle.state.specs.declared.State.{State}
+use Rattle.state.proofs.Bools.{or-left, or-right, test}
+use Rattle.state.proofs.Checks.{first-meets}
+use Rattle.state.proofs.Laws.{founding-shaped}
+use Rattle.access.specs.Lending.{Lending, lending}
+use Rattle.access.specs.Answer.{longest, answer, number}
+use Rattle.access.specs.Claims.{Right}
+use Rattle.access.specs.declared.Answer.{Answer}
+use Rattle.access.specs.declared.Answer.the-variants.{Steps, NoAccess}
+use Rattle.access.proofs.Laws.{answer-is-right}
+use Rattle.records.specs.Record.{recordSize, bytesOf, stateOf, isSized}
+use Rattle.records.proofs.Laws.{state-of-bytes, bytes-of-state, bytes-are-record, bytes-length, record-length, stored-sized, stored-other}
+use Rattle.machine.specs.Step.{stepOf, run, questionRefusals, replyOf}
+use Rattle.guarantees.specs.Demand3.{Upheld}
+use Rattle.machine.specs.declared.Reply.the-variants.{Refused, Answered}
+use Rattle.machine.proofs.Laws.{run-none, run-more, reply-by-first}
+use Rattle.machine.proofs.Laws as machine
+use Rattle.guarantees.proofs.Demand3.{demand-3}
+use Rattle.site_file.specs.Reading.{readOf}
+use Rattle.label_finder.specs.Finder.{hasLabel, textAt, textLength}
+use Rattle.site_file.proofs.Laws.{read-sound, read-numbers, read-number}
+use Rattle.label_finder.proofs.Laws.{label-small, label-behind-front, no-label-at-front}
+use Rattle.interface.specs.Interface.{stepNumber, stepBuffer, answerOf, accessNumber, fileNumber, runBuffer}
+use Rattle.interface.specs.Claims
+use Rattle.interface.specs.Claims.{isAccessNumber}
+use Rattle.interface.proofs.Steps
+
+-- ---- a state's record
+pub step-is-step : Claims.StepIsStep
+step-is-step s h x =
+    let same = state-of-bytes s h in
+    record {
+      number = Steps.number-is (bytesOf s) x ∙ ap (λ (t : State). stepOf t x .refusal) same;
+      buffer = Steps.after-record (bytesOf s) x (bytes-are-record s h) ∙ ap (λ (t : State). bytesOf (stepOf t x .state)) same;
+    }
+
+pub access-is-answer : Claims.AccessIsAnswer
+access-is-answer s h a b = Steps.reply-is (bytesOf s) a b ∙ ap (λ (t : State). answerOf (replyOf t a b)) (state-of-bytes s h)
+
+pub founding-record : Claims.FoundingRecord
+founding-record buffer t = ap stateOf (stored-sized buffer founding (eqb→eq (length buffer) recordSize t)) ∙ state-of-bytes founding founding-shaped
+
+pub file-record : Claims.FileRecord
+file-record file buffer t =
+    let s = readOf file .state in
+    ap stateOf (stored-sized buffer s (eqb→eq (length buffer) recordSize t)) ∙ state-of-bytes s (read-sound file .shaped)
+
+pub founding-unwritten : Claims.FoundingUnwritten
+founding-unwritten buffer e = stored-other buffer founding e
+
+pub file-unwritten : Claims.FileUnwritten
+file-unwritten file buffer e = stored-other buffer (readOf file .state) e
+
+-- ---- a list of instructions
+pub run-is-run : Claims.RunIsRun
+unfolding runBuffer
+run-is-run buffer t [] = sym (bytes-of-state buffer t) ∙ ap bytesOf (sym (run-none (stateOf buffer)))
+run-is-run buffer t (x ∷ rest) =
+    run-is-run (stepBuffer buffer x) (Steps.next-record buffer x t) rest
+    ∙ ap bytesOf (ap (λ (s : State). run s rest) (Steps.next-state buffer x t) ∙ sym (run-more (stateOf buffer) x rest))
+
+pub records-upheld : Claims.RecordsUpheld
+records-upheld buffer h list =
+    let after = run (stateOf buffer) list in
+    let upheld = demand-3 (stateOf buffer) list h in
+    let same : stateOf (runBuffer buffer list) ≡ after = ap stateOf (run-is-run buffer (Steps.sound-record buffer h) list) ∙ state-of-bytes after (upheld .sound .shaped) in
+    subst (λ (t : State). Upheld (stateOf buffer) list t) (sym same) upheld
+
+-- ---- refusals
+pub refused-same-bytes : Claims.RefusedSameBytes
+refused-same-bytes = Steps.refused
+
+pub no-record-is-12 : Claims.NoRecordIs12
+unfolding stepNumber
+no-record-is-12 buffer x e = ap (λ (b : Bool). cond b (stepOf (stateOf buffer) x .refusal) 12) e
+
+pub no-record-no-answer : Claims.NoRecordNoAnswer
+unfolding accessNumber
+no-record-no-answer buffer a b e = ap (λ (v : Bool). answerOf (cond v (replyOf (stateOf buffer) a b) (Refused 12))) e
+
+pub step-length : Claims.StepLength
+step-length buffer x = go (ℕ-discrete (stepNumber buffer x) 0)
+  where
+    go : Dec (stepNumber buffer x ≡ 0) → length (stepBuffer buffer x) ≡ length buffer
+    go (yes e) = ap length (Steps.accepted buffer x e) ∙ bytes-length (stepOf (stateOf buffer) x .state) ∙ sym (record-length buffer (Steps.obeyed buffer x e))
+    go (no f) = ap length (Steps.refused buffer x f)
+
+-- ---- the numbers
+pub step-numbers : Claims.StepNumbers
+step-numbers buffer x =
+    let most : stepNumber buffer x ≤ 12 = rw (Steps.number-is buffer x) (machine.step-numbers (stateOf buffer) x) in
+    lt→ltb (stepNumber buffer x) 13 (omega arith)
+
+pub file-numbers : Claims.FileNumbers
+unfolding fileNumber
+file-numbers file buffer = go (isSized buffer)
+  where
+    go : (v : Bool) → let n = cond v (readOf file .refusal) 31 in T (eqb n 0 || (ltb 20 n && ltb n 30) || eqb n 31)
+    go true = let n = readOf file .refusal in or-left (eqb n 0 || (ltb 20 n && ltb n 30)) (eqb n 31) (rw (read-number file) (read-numbers file))
+    go false = tt
+
+-- an answer is a number of steps within the limit, or 255
+answer-small : (l : Lending) (a : ℕ) (x : Answer) → Right l a x → T (isAccessNumber (number x))
+answer-small l a (Steps n) h =
+    or-right (eqb n 255 || eqb n (256 + 12) || eqb n (256 + 2) || eqb n (256 + 4)) (not (ltb longest n)) (rw (le-ltb longest n (h .short)) tt)
+answer-small l a NoAccess h = tt
+
+-- each number of the question's table, with 256
+refusal-known : ℕ → Bool
+refusal-known n = eqb n 0 || isAccessNumber (256 + n)
+
+reply-known : (s : State) (a b : ℕ) → T (isAccessNumber (answerOf (replyOf s a b)))
+unfolding refusal-known
+reply-known s a b = rw (reply-by-first s a b) (go (eqb n 0) (first-meets refusal-known (questionRefusals s a b) tt tt))
+  where
+    n : ℕ
+    n = firstMet (questionRefusals s a b)
+
+    go : (v : Bool) → T (v || isAccessNumber (256 + n)) → T (isAccessNumber (answerOf (cond v (Answered (answer (lending s b) a)) (Refused n))))
+    go true t = answer-small (lending s b) a (answer (lending s b) a) (answer-is-right (lending s b) a)
+    go false t = t
+
+pub access-numbers : Claims.AccessNumbers
+access-numbers buffer a b = rw (Steps.reply-is buffer a b) (reply-known (stateOf buffer) a b)
+
+-- ---- a label's number
+pub label-number-parts : Claims.LabelNumberParts
+label-number-parts file bytes a =
+    let small = label-small file bytes a in
+    record { offset = omega arith; size = omega arith }
+
+pub no-label-is-0 : Claims.NoLabelIs0
+no-label-is-0 file a = (λ e. nowhere e (test (hasLabel file a)), zero)
+  where
+    nowhere : textAt file a * 65536 + textLength file a ≡ 0 → T (hasLabel file a) ⊎ (hasLabel file a ≡ false) → hasLabel file a ≡ false
+    nowhere e (inl t) = let behind = label-behind-front file a t in absurd (omega arith)
+    nowhere e (inr f) = f
+
+    zero : hasLabel file a ≡ false → textAt file a * 65536 + textLength file a ≡ 0
+    zero f = let front = no-label-at-front file a f in omega (arith, front .starts, front .long)

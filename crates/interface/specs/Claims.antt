@@ -1,0 +1,93 @@
+-- What is claimed of the C interface. Each claim is a type, which proofs/Laws.antt inhabits under the claim's name.
+use Prim.Native.Nat.{ℕ, _+_, _/_, _%_}
+use mathlib.Core.Path.{_≡_}
+use mathlib.Core.Logic.{_↔_}
+use mathlib.Core.Bool.{Bool, false, _&&_, _||_, not}
+use mathlib.Core.List.{List}
+use lib.Dec.{T, eqb, ltb}
+use lib.ListN.{length}
+use Rattle.state.specs.Site.{Shaped, founding}
+use Rattle.state.specs.declared.State.{State}
+use Rattle.access.specs.Answer.{longest}
+use Rattle.soundness.specs.Sound.{Sound}
+use Rattle.records.specs.Record.{bytesOf, isRecord, stateOf, isSized}
+use Rattle.instructions.specs.Instructions.{Bytes}
+use Rattle.machine.specs.Step.{stepOf, run, replyOf}
+use Rattle.guarantees.specs.Demand3.{Upheld}
+use Rattle.site_file.specs.Reading.{readOf}
+use Rattle.site_format.specs.Format.{AreBytes}
+use Rattle.label_finder.specs.Finder.{hasLabel, textAt, textLength}
+use Rattle.interface.specs.Interface.{foundingBuffer, stepNumber, stepBuffer, answerOf, accessNumber, fileNumber, fileBuffer, labelNumber, runBuffer}
+
+-- ---- with a state's record, the interface does what the machine does with the state
+pub record StepsAs (s : State) (x : Bytes) : Type 0 where
+  pub number : stepNumber (bytesOf s) x ≡ stepOf s x .refusal
+  pub buffer : stepBuffer (bytesOf s) x ≡ bytesOf (stepOf s x .state)
+
+abbrev pub StepIsStep : Type 0
+StepIsStep = (s : State) → Shaped s → (x : Bytes) → StepsAs s x
+
+abbrev pub AccessIsAnswer : Type 0
+AccessIsAnswer = (s : State) → Shaped s → (a b : ℕ) → accessNumber (bytesOf s) a b ≡ answerOf (replyOf s a b)
+
+-- and the states that it hands out are those that are asked for
+abbrev pub FoundingRecord : Type 0
+FoundingRecord = (buffer : List ℕ) → T (isSized buffer) → stateOf (foundingBuffer buffer) ≡ founding
+
+abbrev pub FileRecord : Type 0
+FileRecord = (file buffer : List ℕ) → T (isSized buffer) → stateOf (fileBuffer file buffer) ≡ readOf file .state
+
+-- "31 and no byte written": a state buffer of another length keeps its bytes
+abbrev pub FoundingUnwritten : Type 0
+FoundingUnwritten = (buffer : List ℕ) → isSized buffer ≡ false → foundingBuffer buffer ≡ buffer
+
+abbrev pub FileUnwritten : Type 0
+FileUnwritten = (file buffer : List ℕ) → isSized buffer ≡ false → fileBuffer file buffer ≡ buffer
+
+-- ---- a program that keeps a record and calls one instruction after the other has the machine's state
+abbrev pub RunIsRun : Type 0
+RunIsRun = (buffer : List ℕ) → T (isRecord buffer) → (list : List Bytes) → runBuffer buffer list ≡ bytesOf (run (stateOf buffer) list)
+
+-- so the third demand holds of its records: from any record of a sound state, for every list of instructions
+abbrev pub RecordsUpheld : Type 0
+RecordsUpheld = (buffer : List ℕ) → Sound (stateOf buffer) → (list : List Bytes) → Upheld (stateOf buffer) list (stateOf (runBuffer buffer list))
+
+-- ---- "the refusal and no byte changed"
+abbrev pub RefusedSameBytes : Type 0
+RefusedSameBytes = (buffer : List ℕ) (x : Bytes) → (stepNumber buffer x ≡ 0 → ⊥) → stepBuffer buffer x ≡ buffer
+
+-- "A record of another length, or with a byte that no record has, is 12."
+abbrev pub NoRecordIs12 : Type 0
+NoRecordIs12 = (buffer : List ℕ) (x : Bytes) → isRecord buffer ≡ false → stepNumber buffer x ≡ 12
+
+abbrev pub NoRecordNoAnswer : Type 0
+NoRecordNoAnswer = (buffer : List ℕ) (a b : ℕ) → isRecord buffer ≡ false → accessNumber buffer a b ≡ 256 + 12
+
+-- a step never changes how long the buffer is
+abbrev pub StepLength : Type 0
+StepLength = (buffer : List ℕ) (x : Bytes) → length (stepBuffer buffer x) ≡ length buffer
+
+-- ---- no other numbers come back
+abbrev pub StepNumbers : Type 0
+StepNumbers = (buffer : List ℕ) (x : Bytes) → T (ltb (stepNumber buffer x) 13)
+
+abbrev pub FileNumbers : Type 0
+FileNumbers = (file buffer : List ℕ) → let n = fileNumber file buffer in T (eqb n 0 || (ltb 20 n && ltb n 30) || eqb n 31)
+
+-- 255; 256 + n, "Refusals 12, 2, 4"; or a number of steps, "never above 31" (access, `longest`)
+abbrev pub isAccessNumber : ℕ → Bool
+isAccessNumber n = eqb n 255 || eqb n (256 + 12) || eqb n (256 + 2) || eqb n (256 + 4) || not (ltb longest n)
+
+abbrev pub AccessNumbers : Type 0
+AccessNumbers = (buffer : List ℕ) (a b : ℕ) → T (isAccessNumber (accessNumber buffer a b))
+
+-- ---- the two parts of a label's number, and where it is 0
+pub record LabelParts (file : List ℕ) (a : ℕ) : Type 0 where
+  pub offset : labelNumber file a / 65536 ≡ textAt file a
+  pub size : labelNumber file a % 65536 ≡ textLength file a
+
+abbrev pub LabelNumberParts : Type 0
+LabelNumberParts = (file : List ℕ) → AreBytes file → (a : ℕ) → LabelParts file a
+
+abbrev pub NoLabelIs0 : Type 0
+NoLabelIs0 = (file : List ℕ) (a : ℕ) → (labelNumber file a ≡ 0) ↔ (hasLabel file a ≡ false)

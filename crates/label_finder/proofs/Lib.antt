@@ -1,0 +1,3 @@
+-- Laws has the claims of specs/. Texts is this crate's own: the text of a label, with one and without.
+mod Texts
+pub mod Laws

@@ -1,0 +1,131 @@
+-- `label_finder::label_place` meets its contract: the tests say whether the area has a label, and with one the text stands where its entry says.
+-- Assumes nothing.
+use Prim.Native.Nat.{ℕ, _+_, _*_}
+use mathlib.Core.Path.{_≡_, sym, ap, ap₂, _∙_}
+use mathlib.Core.Bool.{Bool, true, false, _&&_, not}
+use mathlib.Core.List.{List}
+use native.Mathlib.Omega.{arith}
+use borrow.Author.Tests.{lt-ltb, le-ltb, not-true, not-false}
+use denote.Ref.{now}
+use lib.Dec.{eqb, ltb}
+use Rattle.label_tables.specs.Labels.{labelCount, labelLength, labelIndex}
+use Rattle.site_format.specs.Format.{AreBytes, labels, offsetIn, part}
+use Rattle.site_file.specs.Reading.{refusalOf}
+use Rattle.label_finder.specs.Finder.{hasLabel, textAt, textLength, placeOf}
+use Rattle.state.proofs.Bools.{holds, fails}
+use Rattle.label_finder.proofs.Laws.{label-small}
+use Rattle.label_finder.proofs.Texts.{found, front}
+use Rattle.label_finder.proofs.label_place.Statement.{statement}
+use Rattle.label_finder.proofs.label_place.Tie as tie
+
+module _ (file : List ℕ) (a : ℕ) where
+  -- what the tests say
+  refused : {told : Bool} → told ≡ eqb (refusalOf file) 0 → not told ≡ true → hasLabel file a ≡ false
+  refused {told} e n = ap (λ (b : Bool). b && ltb (labelIndex (part file labels) a) (labelCount (part file labels))) (sym e ∙ not-true told n)
+
+  entry : {told : Bool} {table : List ℕ} {k : ℕ} (v : Bool) → told ≡ eqb (refusalOf file) 0 → not told ≡ false → table ≡ part file labels → k ≡ labelIndex table a
+      → ltb k (labelCount table) ≡ v → hasLabel file a ≡ v
+  entry {told} {table} v e n t i b =
+      ap₂ _&&_ (sym e ∙ not-false told n) (ap (λ (l : List ℕ). ltb (labelIndex l a) (labelCount l)) (sym t) ∙ sym (ap (λ (m : ℕ). ltb m (labelCount table)) i) ∙ b)
+
+  -- with a label, by what was read
+  entry-at : {table : List ℕ} {k offset : ℕ} → hasLabel file a ≡ true → table ≡ part file labels → k ≡ labelIndex table a → offset ≡ offsetIn file labels
+      → offset + (k * 32 + 2) ≡ textAt file a
+  entry-at e t i o = ap₂ (λ (m n : ℕ). m + (n * 32 + 2)) o (i ∙ ap (λ (l : List ℕ). labelIndex l a) t) ∙ sym (found file a (holds e) .0)
+
+  entry-long : {table : List ℕ} {k : ℕ} → hasLabel file a ≡ true → table ≡ part file labels → k ≡ labelIndex table a → labelLength table k ≡ textLength file a
+  entry-long {table} e t i =
+      ap (labelLength table) i ∙ ap (λ (l : List ℕ). labelLength l (labelIndex l a)) t ∙ sym (found file a (holds e) .1)
+
+  -- the two parts of the answer
+  placed : (at len : ℕ) → at ≡ textAt file a → len ≡ textLength file a → record { at = at; length = len } ≡ placeOf file a
+  placed at len e f i = record { at = e i; length = f i }
+
+  nowhere : hasLabel file a ≡ false → record { at = 0; length = 0 } ≡ placeOf file a
+  nowhere e = let f = front file a (fails e) in placed 0 0 (sym (f .0)) (sym (f .1))
+
+-- the entry was found
+labelled : (c : tie.Else2) → let start = c .before .before .before .before .before .before in hasLabel (now (start .args .file)) (start .args .area) ≡ true
+labelled c =
+    let asked = c .before .before .before .before in
+    entry _ _ true (asked .is-accepted .ensures) (c .before .before .before .if1 .left) (c .before .before .labels .ensures) (c .before .index-of .ensures) (lt-ltb _ _ (c .if2 .left))
+
+text-at : (c : tie.After-field-at) → let start = c .before .before .before .before .before .before .before in
+    c .field-at .result + (c .before .before .index-of .result * 32 + 2) ≡ textAt (now (start .args .file)) (start .args .area)
+text-at c = entry-at _ _ (labelled (c .before)) (c .before .before .before .labels .ensures) (c .before .before .index-of .ensures) (c .field-at .ensures)
+
+-- a slice of bytes has bytes
+are-bytes : (c : tie.After-shared-slice-known) → AreBytes (now (c .before .args .file))
+are-bytes c i = omega (arith, c .shared-slice-known .given i)
+
+is-accepted-requires : tie.Need-is-accepted-requires
+is-accepted-requires c κs = tt
+
+returns : tie.Need-returns
+returns c = nowhere _ (c .before .before .before .args .area) (refused _ _ (c .before .is-accepted .ensures) (c .if1 .taken))
+
+labels-requires : tie.Need-labels-requires
+labels-requires c κs = tt
+
+index-of-requires : tie.Need-index-of-requires
+index-of-requires c κs = tt
+
+returns-2 : tie.Need-returns-2
+returns-2 c =
+    let asked = c .before .before .before .before in
+    nowhere _ (asked .before .before .args .area)
+    (entry _ _ false (asked .is-accepted .ensures) (c .before .before .before .if1 .left) (c .before .before .labels .ensures) (c .before .index-of .ensures) (le-ltb _ _ (c .if2 .taken)))
+
+field-at-requires : tie.Need-field-at-requires
+field-at-requires c κs = tt
+
+cast-at : tie.Need-cast-at
+cast-at c = omega arith
+
+mul-at : tie.Need-mul-at
+mul-at c = omega arith
+
+add-at : tie.Need-add-at
+add-at c = omega arith
+
+add-at-2 : tie.Need-add-at-2
+add-at-2 c = omega arith
+
+cast-t11 : tie.Need-cast-t11
+cast-t11 c =
+    let known = c .before .before .before .before .before .before in
+    omega (arith, text-at c, label-small (now (known .before .args .file)) (are-bytes known) (known .before .args .area))
+
+mul-t12 : tie.Need-mul-t12
+mul-t12 c = omega arith
+
+add-t10 : tie.Need-add-t10
+add-t10 c = omega arith
+
+shared-slice-read-t14 : tie.Need-shared-slice-read-t14
+shared-slice-read-t14 c = omega arith
+
+returns-3 : tie.Need-returns-3
+returns-3 c =
+    let found = c .before .before in
+    placed _ _ _ _ (text-at (c .before)) (entry-long _ _ (labelled found) (found .before .before .labels .ensures) (found .before .index-of .ensures))
+
+pub label-place-spec : {M : Type 1} → statement M
+label-place-spec =
+    tie.close
+    (tie.spec
+    is-accepted-requires
+    returns
+    labels-requires
+    index-of-requires
+    returns-2
+    field-at-requires
+    cast-at
+    mul-at
+    add-at
+    add-at-2
+    cast-t11
+    mul-t12
+    add-t10
+    shared-slice-read-t14
+    returns-3)

@@ -1,0 +1,52 @@
+// The label finder: an area's label is a part of the caller's file.
+ghost use mathlib.Core.Path.{_≡_};
+ghost use lib.Dec.{eqb};
+ghost use denote.Ref.{ptr};
+ghost use Rattle.site_format.specs.Format.{behind};
+ghost use Rattle.site_file.specs.Reading.{refusalOf};
+ghost use Rattle.label_finder.specs.Finder.{textAt, placeOf, labelText};
+
+// Where a text stands in a file: its first byte, and how many it has.
+pub struct Place {
+    pub at: u16,
+    pub length: u8,
+}
+
+// Is the file accepted?
+fn is_accepted(file: &[u8]) -> bool
+    ensures { λ r. ⌜ r ≡ eqb (refusalOf (now (file .entry))) 0 ⌝ }
+{
+    let reading = site_file::read(file);
+    reading.refusal == 0
+}
+
+// Where the text of the area's label stands in the file, and how many bytes it has; both are 0 for a refused file, or
+// an area with no label.
+pub fn label_place(file: &[u8], area: u8) -> Place
+    ensures { λ r. ⌜ r ≡ placeOf (now (file .entry)) area ⌝ }
+{
+    let nowhere = Place { at: 0, length: 0 };
+    if !is_accepted(file) {
+        return nowhere;
+    }
+    let table = site_format::labels(file);
+    let k = label_tables::index_of(table, area);
+    if table.len() / 32 <= k {
+        return nowhere;
+    }
+    let at = site_format::field_at(file, 26) as usize + (k * 32 + 2);
+    Place {
+        at: at as u16,
+        length: table[k * 32 + 1],
+    }
+}
+
+// The text of the area's label, as a part of the file; for a refused file, or an area with no label, the part of length
+// 0 at the file's front.
+pub fn label(file: &[u8], area: u8) -> &[u8]
+    ensures bytes { λ r. ⌜ now r ≡ labelText (now (file .entry)) area ⌝ }
+    ensures place { λ r. ⌜ r .ptr ≡ behind (file .entry .ptr) (textAt (now (file .entry)) area) ⌝ }
+{
+    let place = label_place(file, area);
+    site_format::part_from(file, place.at as usize, place.length as usize)
+}

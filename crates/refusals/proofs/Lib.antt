@@ -1,0 +1,3 @@
+-- Late shows that the checks 8 to 11 may be read off the successor, and so that the table is that of its two parts: the
+-- step in `machine` rests on it.
+pub mod Late

@@ -1,0 +1,2 @@
+-- Laws has the claims of specs/.
+pub mod Laws

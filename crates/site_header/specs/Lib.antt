@@ -1,0 +1,4 @@
+-- What a reader of this crate believes: the refusals of a site file's header (Header), and what is claimed of a file
+-- that passes them (Claims).
+pub mod Header
+pub mod Claims

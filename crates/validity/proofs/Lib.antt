@@ -1,0 +1,2 @@
+-- Rows joins the test of `soundness` to what the functions promise each other.
+mod Rows
