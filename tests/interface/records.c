@@ -1,4 +1,4 @@
-/* Records of another length, and records with a byte that is neither 0 nor 1. */
+/* What a record holds, records of another length, and records with a byte that is neither 0 nor 1. */
 #include "tests.h"
 
 #include <string.h>
@@ -70,6 +70,31 @@ static void test_founding(void)
         CHECK(site.before[i] == 0xa5 && site.behind[i] == 0xa5);
 }
 
+/* Sets and relations as instructions write them. */
+static void test_written(void)
+{
+    static const uint8_t list_area[4] = {PANELRIGHTS_LIST_AREA, 0, 31, 0};
+    static const uint8_t define[4] = {PANELRIGHTS_DEFINE, 0, 0, 63};
+    static const uint8_t add_owner[4] = {PANELRIGHTS_ADD_OWNER, 0, 0, 1};
+    static const uint8_t remove_owner[4] = {PANELRIGHTS_REMOVE_OWNER, 0, 0, 0};
+    static const uint8_t no_such_area[4] = {PANELRIGHTS_ADD_EXPORT, 0, 40, 2};
+    struct guarded site;
+
+    found(&site);
+    CHECK(PANELRIGHTS_HAS_USER(site.state, 0) && !PANELRIGHTS_HAS_USER(site.state, 1));
+    CHECK(PANELRIGHTS_OWNS(site.state, 0, 0) && !PANELRIGHTS_OWNS(site.state, 0, 1));
+    step(&site, list_area, PANELRIGHTS_OK);
+    CHECK(PANELRIGHTS_HAS_AREA(site.state, 31));
+    step(&site, define, PANELRIGHTS_OK);
+    CHECK(PANELRIGHTS_HAS_OBJECT(site.state, 63));
+    step(&site, add_owner, PANELRIGHTS_OK);
+    step(&site, remove_owner, PANELRIGHTS_OK);
+    CHECK(!PANELRIGHTS_OWNS(site.state, 0, 0));
+    /* Area 40 is none, and its place is not that of area 8 of the next object. */
+    step(&site, no_such_area, PANELRIGHTS_OUT_OF_RANGE);
+    CHECK(!PANELRIGHTS_EXPORTED_BY(site.state, 3, 8));
+}
+
 /* How many places the reading macros find, over all numbers and the first few out of range. */
 static unsigned found_places(const uint8_t *state)
 {
@@ -124,6 +149,7 @@ void test_records(void)
     size_t place;
 
     test_founding();
+    test_written();
     test_reading();
     refuse_length(0);
     refuse_length(1);

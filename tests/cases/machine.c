@@ -1,0 +1,217 @@
+/*
+ * Instructions and access questions: works out each line of standard input (machine.txt) over the C interface
+ * and compares it with the line. The top of that file tells the forms of a line.
+ */
+#include "cases.h"
+
+#include <ctype.h>
+#include <stdio.h>
+#include <stdlib.h>
+#include <string.h>
+
+/* The record of the case. */
+static uint8_t *site;
+
+/* What was done so far, in all and in the case. */
+static struct {
+    unsigned long cases, instructions, refused, questions, counts, writes, lines_of_case;
+} done;
+
+/* Obeys an instruction; a refused one must leave the record as it was. */
+static uint8_t obey(uint8_t code, uint8_t activator, uint8_t a, uint8_t b)
+{
+    uint8_t given[PANELRIGHTS_STATE_BYTES];
+    uint8_t refusal;
+
+    memcpy(given, site, sizeof given);
+    refusal = panelrights_step(site, PANELRIGHTS_STATE_BYTES, code, activator, a, b);
+    done.instructions++;
+    if (refusal != PANELRIGHTS_OK) {
+        done.refused++;
+        if (memcmp(site, given, sizeof given) != 0)
+            fail("%d %d %d %d is refused as %d and changes the record", code, activator, a, b, refusal);
+    }
+    return refusal;
+}
+
+/*
+ * Each of these takes the lines of one form, without the spaces at the front. It gives 0 for any other line;
+ * or 1, and writes the line as it comes out. Its numbers are those that the library got, so one above 255
+ * comes out as another.
+ */
+static int take_instruction(const char *text, char *worked)
+{
+    unsigned code, activator, a, b;
+    uint8_t refusal;
+
+    if (sscanf(text, "%3u %3u %3u %3u", &code, &activator, &a, &b) != 4)
+        return 0;
+    refusal = obey((uint8_t)code, (uint8_t)activator, (uint8_t)a, (uint8_t)b);
+    sprintf(worked, "%d %d %d %d: %d", (uint8_t)code, (uint8_t)activator, (uint8_t)a, (uint8_t)b, refusal);
+    return 1;
+}
+
+static int take_question(const char *text, char *worked)
+{
+    unsigned area, object;
+    uint16_t answer;
+
+    if (sscanf(text, "area %3u, object %3u", &area, &object) != 2)
+        return 0;
+    done.questions++;
+    answer = panelrights_access(site, PANELRIGHTS_STATE_BYTES, (uint8_t)area, (uint8_t)object);
+    worked += sprintf(worked, "area %d, object %d: ", (uint8_t)area, (uint8_t)object);
+    if (answer >= PANELRIGHTS_ACCESS_REFUSED)
+        sprintf(worked, "refused %d", answer - PANELRIGHTS_ACCESS_REFUSED);
+    else if (answer == PANELRIGHTS_NO_ACCESS)
+        sprintf(worked, "no access");
+    else
+        sprintf(worked, "steps %d", answer);
+    return 1;
+}
+
+/* Definition pairs are not among the counts: each object has one. */
+static int take_counts(const char *text, char *worked)
+{
+    static const size_t counted[] = {0, 1, 2, 3, 5, 6, 7};
+    unsigned counts[TABLES];
+    size_t i;
+
+    if (strncmp(text, "state", strlen("state")) != 0)
+        return 0;
+    done.counts++;
+    count(site, counts);
+    worked += sprintf(worked, "state");
+    for (i = 0; i < sizeof counted / sizeof *counted; i++)
+        worked += sprintf(worked, " %u", counts[counted[i]]);
+    return 1;
+}
+
+static int take_chain(const char *text, char *worked)
+{
+    uint8_t area;
+
+    if (strcmp(text, "areas 1 to 31, each in the next; all but 31 export object 9") != 0)
+        return 0;
+    for (area = 0; area < 31; area++)
+        if (obey(PANELRIGHTS_LIST_AREA, 0, area + 1, 0) ||
+            obey(PANELRIGHTS_ADD_STRUCTURE, 0, area, area + 1) || obey(PANELRIGHTS_ADD_EXPORT, 0, area, 9))
+            fail("the chain is refused at area %d", area);
+    strcpy(worked, text);
+    return 1;
+}
+
+/* Writes 1 to a place of the record. */
+static void write_place(size_t place)
+{
+    if (site[place] != 0)
+        fail("the record has this already");
+    site[place] = 1;
+    done.writes++;
+}
+
+static int take_listing(const char *text, char *worked)
+{
+    char list[8];
+    unsigned number;
+
+    if (sscanf(text, "the record: %7s %3u", list, &number) != 2)
+        return 0;
+    sprintf(worked, "the record: %s %u listed", list, number);
+    if (strcmp(worked, text) != 0)
+        return 0;
+    if (strcmp(list, "user") == 0 && number < PANELRIGHTS_USERS)
+        write_place(USER_AT(number));
+    else if (strcmp(list, "area") == 0 && number < PANELRIGHTS_AREAS)
+        write_place(AREA_AT(number));
+    else if (strcmp(list, "object") == 0 && number < PANELRIGHTS_OBJECTS)
+        write_place(OBJECT_AT(number));
+    else
+        return 0;
+    return 1;
+}
+
+static int take_pair(const char *text, char *worked)
+{
+    unsigned object, area;
+    int defined = sscanf(text, "the record: object %3u defined in area %3u", &object, &area) == 2;
+
+    if (!defined && sscanf(text, "the record: object %3u imported by area %3u", &object, &area) != 2)
+        return 0;
+    sprintf(worked, "the record: object %u %s area %u", object, defined ? "defined in" : "imported by", area);
+    if (strcmp(worked, text) != 0 || object >= PANELRIGHTS_OBJECTS || area >= PANELRIGHTS_AREAS)
+        return 0;
+    write_place(defined ? DEFINITION_AT(object, area) : IMPORT_AT(object, area));
+    return 1;
+}
+
+static int take_emptying(const char *text, char *worked)
+{
+    if (strcmp(text, "the record: nothing listed, no pair") != 0)
+        return 0;
+    memset(site, 0, PANELRIGHTS_STATE_BYTES);
+    done.writes++;
+    strcpy(worked, text);
+    return 1;
+}
+
+static int (*const forms[])(const char *text, char *worked) = {
+    take_instruction, take_question, take_counts, take_chain, take_listing, take_pair, take_emptying,
+};
+
+/* A case without a line would pass whatever the library does. */
+static void end_case(void)
+{
+    if (done.cases > 0 && done.lines_of_case == 0)
+        fail("a case without a line ends here");
+    done.lines_of_case = 0;
+}
+
+static void begin_case(const char *heading)
+{
+    if (!islower((unsigned char)heading[0]))
+        fail("this fits no form: %s", heading);
+    end_case();
+    done.cases++;
+    if (panelrights_founding(site, PANELRIGHTS_STATE_BYTES) != PANELRIGHTS_OK)
+        fail("no founding state");
+}
+
+static void work_out(const char *line)
+{
+    const char *text = line + strspn(line, " ");
+    char worked[256];
+    size_t i;
+
+    for (i = 0; i < sizeof forms / sizeof *forms; i++) {
+        if (forms[i](text, worked)) {
+            done.lines_of_case++;
+            if (done.cases == 0)
+                fail("no case has begun: %s", line);
+            if (text != line + 2 || strcmp(worked, text) != 0)
+                fail("'%s' is expected, and '  %s' comes", line, worked);
+            return;
+        }
+    }
+    begin_case(line);
+}
+
+int main(void)
+{
+    const char *line;
+
+    site = allocate(PANELRIGHTS_STATE_BYTES);
+    memset(site, 0, PANELRIGHTS_STATE_BYTES);
+    while ((line = next_line()) != NULL)
+        if (line[0] != '#')
+            work_out(line);
+    end_case();
+    if (done.cases == 0)
+        fail("no case");
+    printf("%lu cases of the machine with %lu instructions (%lu refused), ", done.cases, done.instructions,
+           done.refused);
+    printf("%lu questions, %lu counts of a state and %lu writes to a record\n", done.questions, done.counts,
+           done.writes);
+    free(site);
+    return 0;
+}
