@@ -1,26 +1,23 @@
-# The commands of this repository; README.md says what each is for.
+# The commands of this repository; docs/GUIDE.md says what each is for.
 
 PREFIX = /usr/local
 DESTDIR =
 CFLAGS = -std=c99 -O2 -Wall -Wextra -pedantic
 
-.PHONY: run lib install examples test bench clean
+.PHONY: run lib install examples test edits bench clean
 
 run:
-	@rt check panelrights
-	@echo
-	@echo 'PanelRights, on the session of document 01 (crates/panelrights/stdin):'
-	@target/bin/panelrights <crates/panelrights/stdin
-	@echo
-	@echo 'On a file of your own: target/bin/panelrights <FILE'
+	@tools/run.sh
 
 lib:
 	@mkdir -p target/lib
 	@rt staticlib capi >target/staticlib.log 2>&1 || { cat target/staticlib.log; exit 1; }
-	@cmp -s target/staticlib/libcapi.a target/lib/libpanelrights.a || cp target/staticlib/libcapi.a target/lib/libpanelrights.a
+	@cmp -s target/staticlib/libcapi.a target/lib/libpanelrights.a || \
+		cp target/staticlib/libcapi.a target/lib/libpanelrights.a
 
+# The file VERSION has the project's version, which moves when the record or a prototype does.
 install: lib
-	@sed 's|@PREFIX@|$(PREFIX)|' panelrights.pc.in >target/lib/panelrights.pc
+	@sed -e 's|@PREFIX@|$(PREFIX)|' -e "s|@VERSION@|$$(cat VERSION)|" panelrights.pc.in >target/lib/panelrights.pc
 	install -d '$(DESTDIR)$(PREFIX)/include' '$(DESTDIR)$(PREFIX)/lib/pkgconfig'
 	install -m 644 include/panelrights.h '$(DESTDIR)$(PREFIX)/include'
 	install -m 644 target/lib/libpanelrights.a '$(DESTDIR)$(PREFIX)/lib'
@@ -37,6 +34,9 @@ examples: lib
 
 test:
 	@tests/gate.sh
+
+edits:
+	@tools/edits.sh
 
 bench: lib
 	@rt check panelrights >target/panelrights.log 2>&1 || { cat target/panelrights.log; exit 1; }

@@ -1,6 +1,7 @@
 #!/usr/bin/env bash
-# The library as its callers meet it: a C program against the archive, an installed copy and a shared object; the examples in C and
-# Rust; the tests of the Rust package. It takes target/lib/libpanelrights.a as `make lib` left it.
+# The library as its callers meet it: a C program against the archive, an installed copy and a shared object; the
+# version, wherever it stands; the examples in C and Rust; the tests of the Rust package. It takes
+# target/lib/libpanelrights.a as `make lib` left it.
 set -euo pipefail
 cd "$(dirname "$0")/.."
 unset PANELRIGHTS_LIB_DIR
@@ -8,6 +9,7 @@ export CARGO_TARGET_DIR=target/cargo
 library=target/lib/libpanelrights.a
 work=$(mktemp -d)
 trap 'rm -rf "$work"' EXIT
+runs=0 # of the examples
 
 fail() {
     echo "interface: $*" >&2
@@ -35,6 +37,7 @@ run_checks() {
 expect() {
     local status=$1 expected=$2 complaint=$3 ended=0
     shift 3
+    runs=$((runs + 1))
     "$@" >"$work/printed" 2>"$work/complaint" || ended=$?
     [ "$ended" = "$status" ] || fail "$*: it ended with $ended and not with $status"
     cmp "$work/printed" "$expected" || fail "$*: it printed something else"
@@ -56,6 +59,7 @@ change_school() {
 # Both programs refuse the changed file with the number, in the same words.
 expect_refusal() {
     local number=$1 ended=0
+    runs=$((runs + 1))
     target/examples/handover-rust "$work/changed.site" >"$work/expected" || ended=$?
     [ "$ended" = 1 ] || fail "refusal $number: the example in Rust ended with $ended"
     grep -q "^Refused as $number\. [A-Z].*\.$" "$work/expected" || fail "refusal $number: $(cat "$work/expected")"
@@ -64,9 +68,11 @@ expect_refusal() {
 
 [ -f "$library" ] || fail "$library is not there: run make lib"
 
-# The archive has the header's functions and no other name, asks for memcpy and memset, and has nothing that can be written to.
+# The archive has the header's functions and no other name, asks for memcpy and memset, and has nothing that can be
+# written to.
 declared=$(grep -o 'panelrights_[a-z_]*(' include/panelrights.h | tr -d '(' | sort -u)
-[ "$(nm -g --defined-only "$library" | awk 'NF == 3 { print $3 }' | sort)" = "$declared" ] || fail 'the archive has other names than the header'
+defined=$(nm -g --defined-only "$library" | awk 'NF == 3 { print $3 }' | sort)
+[ "$defined" = "$declared" ] || fail 'the archive has other names than the header'
 asked=$(nm -g --undefined-only "$library" | awk 'NF == 2 && $2 !~ /^mem(cpy|set)$/ { print $2 }')
 [ -z "$asked" ] || fail "the archive asks for $asked"
 [ -z "$(nm "$library" | awk '$2 ~ /^[bBcCdDsS]$/')" ] || fail 'the archive has data that can be written to'
@@ -80,23 +86,37 @@ echo "interface: $printed in C; the header in C++; $stack"
 
 quietly make -o lib install PREFIX="$work/usr"
 quietly make -o lib install PREFIX=/opt/site DESTDIR="$work/staged"
+version=$(cat VERSION)
 for place in "$work/usr" "$work/staged/opt/site"; do
     cmp include/panelrights.h "$place/include/panelrights.h" || fail 'the header is not installed'
     cmp "$library" "$place/lib/libpanelrights.a" || fail 'the library is not installed'
+    grep -qxF "Version: $version" "$place/lib/pkgconfig/panelrights.pc" || fail "panelrights.pc is not of $version"
 done
-grep -qx 'prefix=/opt/site' "$work/staged/opt/site/lib/pkgconfig/panelrights.pc" || fail "panelrights.pc names another prefix"
+grep -qx 'prefix=/opt/site' "$work/staged/opt/site/lib/pkgconfig/panelrights.pc" ||
+    fail 'panelrights.pc names another prefix'
 flags=("-I$work/usr/include" "-L$work/usr/lib" -lpanelrights)
 if command -v pkg-config >"$work/log"; then
-    read -ra flags < <(PKG_CONFIG_PATH="$work/usr/lib/pkgconfig" pkg-config --cflags --libs panelrights)
+    export PKG_CONFIG_PATH=$work/usr/lib/pkgconfig
+    read -ra flags < <(pkg-config --cflags --libs panelrights)
+    [ "$(pkg-config --modversion panelrights)" = "$version" ] || fail "pkg-config does not say $version"
 else
     echo 'interface: pkg-config is not here, so its file is not tried'
 fi
 installed=$(run_checks "${flags[@]}")
 
 mkdir "$work/shared"
-quietly gcc -shared -Wl,-z,defs -Wl,--whole-archive "$library" -Wl,--no-whole-archive -o "$work/shared/libpanelrights.so"
+quietly gcc -shared -Wl,-z,defs -Wl,--whole-archive "$library" -Wl,--no-whole-archive \
+    -o "$work/shared/libpanelrights.so"
 shared=$(run_checks -Iinclude -L"$work/shared" -Wl,-rpath,"$work/shared" -lpanelrights)
 echo "interface: $installed against the installed copy, $shared against a shared object"
+
+# The Rust package has the same version, also where it is locked.
+manifests=({bindings/rust/Cargo.toml,{bindings/rust,examples/handover-rust,bench,tests/differential}/Cargo.lock})
+for manifest in "${manifests[@]}"; do
+    line=$(sed -n '/^name = "panelrights"$/{n;p}' "$manifest")
+    [ "$line" = "version = \"$version\"" ] || fail "$manifest: the package is not of $version"
+done
+echo "interface: version $version in the installed panelrights.pc and in ${#manifests[@]} manifests"
 
 bytes_of examples/school.txt | cmp - examples/school.site || fail "examples/school.txt has other bytes than school.site"
 change_school 63 03
@@ -110,17 +130,20 @@ for program in target/examples/handover-c target/examples/handover-rust; do
     expect 2 /dev/null "handover: the file can't be read" "$program" "$work/nowhere"
     expect 2 /dev/null "handover: the file can't be read" "$program" "$work"
     # shellcheck disable=SC2016 # the inner shell fills in its own arguments
-    expect 2 /dev/null "handover: the output can't be written" sh -c '"$1" examples/school.site >/dev/full' sh "$program"
+    expect 2 /dev/null "handover: the output can't be written" \
+        sh -c '"$1" examples/school.site >/dev/full' sh "$program"
 done
 head -c 27 examples/school.site >"$work/changed.site"
 expect_refusal 21
-# Version 0; a byte too many; 65 definitions; owners at 29; area 32; a pair twice; a label for an unlisted area; the hall in loop 2.
+# Version 0; a byte too many; 65 definitions; owners at 29; area 32; a pair twice; a label for an unlisted area; the
+# hall in loop 2.
 for change in '22 0 00' '23 344 00' '24 6 41' '25 16 1d' '26 29 20' '27 31 00' '28 312 09' '29 63 03'; do
     read -r number place byte <<<"$change"
     change_school "$place" "$byte"
     expect_refusal "$number"
 done
-echo 'interface: the examples in C and in Rust print what is stored for the school, and the same words for each refusal of a file'
+echo "interface: $runs runs of the examples, which in C and in Rust print what is stored for the school, and the same" \
+    'words for each refusal of a file'
 
 PANELRIGHTS_LIB_DIR=$work/usr/lib quietly cargo test --quiet --locked --manifest-path bindings/rust/Cargo.toml
 passed=$(awk '/^test result: ok/ { passed += $4 } END { print passed + 0 }' "$work/log")

@@ -1,5 +1,6 @@
 #!/usr/bin/env bash
-# Runs the program PanelRights on the cases of tests/panelrights and on inputs at the limits of its length, and compares what it prints.
+# Runs the program PanelRights on the cases of tests/panelrights and on inputs at the limits of its length, and compares
+# what it prints.
 set -euo pipefail
 cd "$(dirname "$0")/.."
 program=target/bin/panelrights
@@ -23,13 +24,15 @@ repeated() {
 founding='state 1 1 0 1 0 0 0'
 
 for input in tests/panelrights/*.in; do
+    name=$(basename "$input")
     expected=${input%.in}.out
-    expect "$(basename "$input")" "$expected" <"$input"
-    expect "$(basename "$input"), a byte at a time" "$expected" < <(dd if="$input" bs=1 status=none)
+    expect "$name" "$expected" <"$input"
+    expect "$name, a byte at a time" "$expected" < <(dd if="$input" bs=1 status=none)
 done
 
 printf '%s\n' '1 0' '2 0' 'state 1 3 0 3 0 0 0' >"$work/expected"
-expect 'lines that come in pieces' "$work/expected" < <(printf '1 0 1'; sleep 0.2; printf ' 0\n1 0 2'; sleep 0.2; printf ' 0\n')
+expect 'lines that come in pieces' "$work/expected" \
+    < <(printf '1 0 1'; sleep 0.2; printf ' 0\n1 0 2'; sleep 0.2; printf ' 0\n')
 
 { seq -f '%.0f 13' 65536; echo "$founding"; } >"$work/expected"
 expect '65,536 empty lines' "$work/expected" < <(repeated '' 65536)

@@ -4,7 +4,8 @@ set -euo pipefail
 cd "$(dirname "$0")/.."
 log=$(mktemp)
 trap 'rm -f "$log"' EXIT
-CARGO_TARGET_DIR=target/cargo cargo test --quiet --release --locked --manifest-path reference/Cargo.toml >"$log" 2>&1 || { cat "$log"; exit 1; }
+export CARGO_TARGET_DIR=target/cargo
+cargo test --quiet --release --locked --manifest-path reference/Cargo.toml >"$log" 2>&1 || { cat "$log"; exit 1; }
 passed=$(awk '/^test result: ok/ { passed += $4 } END { print passed + 0 }' "$log")
 [ "$passed" -gt 0 ] || { echo 'reference: no test was run'; exit 1; }
 echo "reference: $passed tests of the second implementation"
