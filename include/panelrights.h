@@ -7,7 +7,8 @@
  *
  * You check nothing beforehand. Every function takes any bytes, any numbers and any length, and gives one
  * answer or one refusal number. What you must see to is C's own part:
- *   - numbers have 8 bits, and C turns 256 into 0 before it arrives here: test a wider number first;
+ *   - an instruction is four bytes, and C turns 256 into 0 before it arrives here: test a wider number
+ *     first. (An area or object that is asked about has 32 bits: there 256 is no area, and not area 0);
  *   - a pointer and its length belong together: so many bytes may be read there, and written if the
  *     pointer is not const. With the length 0 the pointer may be NULL;
  *   - the buffers of one call do not overlap;
@@ -170,10 +171,10 @@ enum { PANELRIGHTS_NO_ACCESS = 255, PANELRIGHTS_ACCESS_REFUSED = 256 };
 /*
  * In how many steps does the object reach the area? (Here the area comes first.) The number of steps in a
  * shortest chain from the area that defines it: 0 for that area itself, and never above 31. 255 for no
- * access; 256 + n for refusal n, which is 12, 2 or 4. Keep the answer in 16 bits: in 8, refusal 12 would
- * read as 12 steps.
+ * access; 256 + n for refusal n, which is 12, 2 or 4. Any area above 31 and any object above 63 is refusal
+ * 2: 256 is no area, and not area 0. Keep the answer in 16 bits: in 8, refusal 12 would read as 12 steps.
  */
-uint16_t panelrights_access(const uint8_t *state, size_t state_len, uint8_t area, uint8_t object);
+uint16_t panelrights_access(const uint8_t *state, size_t state_len, uint32_t area, uint32_t object);
 
 /*
  * Reads a site file. 0, and the record is that of the file's state; or the refusal, 21 to 29, and the
@@ -185,12 +186,12 @@ uint8_t panelrights_read_file(const uint8_t *file, size_t file_len, uint8_t *sta
 
 /*
  * Where the text of the area's label stands in the file: offset * 65536 + length. 0 if there is none: the
- * file is refused, or the area has no label (any number above 31 too). The text has 1 to 30 bytes, each 32
- * to 126, and no byte 0 behind it that you may rely on. Labels are the file's and not the state's: keep its
- * bytes for them, and show no label where a step has changed what the area is. Each call checks the whole
- * file.
+ * file is refused, or the area has no label (any number above 31 too: 256 is not area 0). The text has 1 to
+ * 30 bytes, each 32 to 126, and no byte 0 behind it that you may rely on. Labels are the file's and not the
+ * state's: keep its bytes for them, and show no label where a step has changed what the area is. Each call
+ * checks the whole file.
  */
-uint32_t panelrights_label(const uint8_t *file, size_t file_len, uint8_t area);
+uint32_t panelrights_label(const uint8_t *file, size_t file_len, uint32_t area);
 
 #define PANELRIGHTS_LABEL_OFFSET(label) ((size_t)((label) >> 16))
 #define PANELRIGHTS_LABEL_LENGTH(label) ((size_t)((label)&0xffff))

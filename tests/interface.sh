@@ -1,7 +1,7 @@
 #!/usr/bin/env bash
 # The library as its callers meet it: a C program against the archive, an installed copy and a shared object; the
-# version, wherever it stands; the examples in C and Rust; the tests of the Rust package. It takes
-# target/lib/libpanelrights.a as `make lib` left it.
+# version, wherever it stands; the programs of README.md; the examples in C and Rust; the tests of the Rust package. It
+# takes target/lib/libpanelrights.a as `make lib` left it.
 set -euo pipefail
 cd "$(dirname "$0")/.."
 unset PANELRIGHTS_LIB_DIR
@@ -25,12 +25,24 @@ compile_c() {
     quietly gcc -std=c99 -O2 -Wall -Wextra -Werror -pedantic "$@"
 }
 
-checks=(tests/interface/{main,machine,records,files,edges,check}.c)
+checks=(tests/interface/{main,names,machine,records,files,edges,check}.c)
 
 # The C checks, built with the flags given to the compiler; prints how many there were.
 run_checks() {
     compile_c "${checks[@]}" "$@" -o "$work/checks"
     "$work/checks" || fail "the checks in C fail (built with $*)"
+}
+
+# Puts the first block of README.md in this language into a file, and what stands from there to the next block into
+# another.
+take_readme() {
+    awk -v fence="\`\`\`$1" -v block="$2" -v behind="$3" '
+        place == 0 && $0 == fence { place = 1; next }
+        place == 1 && $0 == "```" { place = 2; next }
+        place == 2 && /^```/ { exit }
+        place == 1 { print >block }
+        place == 2 { print >behind }' README.md
+    [ -s "$2" ] || fail "README.md has no block in the language $1"
 }
 
 # The program must end with the status, print what the file has, and write the complaint, if any, to standard error.
@@ -77,6 +89,11 @@ asked=$(nm -g --undefined-only "$library" | awk 'NF == 2 && $2 !~ /^mem(cpy|set)
 [ -z "$asked" ] || fail "the archive asks for $asked"
 [ -z "$(nm "$library" | awk '$2 ~ /^[bBcCdDsS]$/')" ] || fail 'the archive has data that can be written to'
 
+# Each name that the header gives a number is compared with its number.
+numbered=$(grep -oE 'PANELRIGHTS_[A-Z_]+ = ' include/panelrights.h | sed 's/ = //' | sort)
+compared=$(sed -nE 's/^ *CHECK_NUMBER\((PANELRIGHTS_[A-Z_]+), [0-9]+\);$/\1/p' tests/interface/names.c | sort)
+[ "$numbered" = "$compared" ] || fail 'tests/interface/names.c has other names than the header gives a number'
+
 printed=$(run_checks -Iinclude "$library")
 quietly g++ -std=c++11 -Wall -Wextra -Werror -pedantic -Iinclude tests/interface/header.cc "$library" -o "$work/header"
 quietly "$work/header"
@@ -103,6 +120,23 @@ else
     echo 'interface: pkg-config is not here, so its file is not tried'
 fi
 installed=$(run_checks "${flags[@]}")
+
+# README.md's first use in C, built as README.md says, prints what stands behind it; its first use in Rust is called.
+take_readme c "$work/first.c" "$work/behind"
+# shellcheck disable=SC2016 # the backquotes are README.md's
+said=$(sed -n '/prints `/{s/.*prints `\([^`]*\)`.*/\1/p;q}' "$work/behind")
+[ -n "$said" ] || fail 'README.md does not say what its program in C prints'
+compile_c "$work/first.c" "${flags[@]}" -o "$work/first"
+printed=$("$work/first") || fail "README.md's program in C fails"
+[ "$printed" = "$said" ] || fail "README.md's program in C prints '$printed', and not '$said'"
+take_readme rust "$work/lend.rs" "$work/behind"
+mkdir -p "$work/readme/src"
+printf '%s\n' '#![deny(warnings)]' "$(cat "$work/lend.rs")" \
+    'fn main() { assert_eq!(lend(&[]), Err(Refusal::FileTooShort)); }' >"$work/readme/src/main.rs"
+printf '%s\n' '[package]' 'name = "readme"' 'edition = "2021"' '[dependencies]' \
+    "panelrights = { path = \"$PWD/bindings/rust\" }" '[workspace]' >"$work/readme/Cargo.toml"
+quietly cargo run --quiet --offline --manifest-path "$work/readme/Cargo.toml"
+echo "interface: README.md's program in C prints '$said'; its function in Rust is built and called"
 
 mkdir "$work/shared"
 quietly gcc -shared -Wl,-z,defs -Wl,--whole-archive "$library" -Wl,--no-whole-archive \

@@ -16,6 +16,14 @@ expect() {
     passed=$((passed + 1))
 }
 
+# The same of an input that is to have so many bytes.
+expect_bytes() {
+    local bytes=$1 name="$1 bytes, $2" expected=$3
+    cat >"$work/input"
+    [ "$(stat -c %s "$work/input")" = "$bytes" ] || { echo "panelrights $name: the input has another length"; exit 1; }
+    expect "$name" "$expected" <"$work/input"
+}
+
 # So many copies of a line; `yes` ends by a closed pipe.
 repeated() {
     yes "$1" | head -n "$2" || true
@@ -38,17 +46,21 @@ expect 'lines that come in pieces' "$work/expected" \
 expect '65,536 empty lines' "$work/expected" < <(repeated '' 65536)
 
 { echo '1 0'; seq -f '%.0f 6' 2 8192; echo 'state 1 2 0 2 0 0 0'; } >"$work/expected"
-expect '65,536 bytes' "$work/expected" < <(repeated '1 0 1 0' 8192)
+expect_bytes 65536 'one line again and again' "$work/expected" < <(repeated '1 0 1 0' 8192)
+
+{ echo '1 0'; seq -f '%.0f 6' 2 8191; echo '8192 0'; echo 'state 1 3 0 3 0 0 0'; } >"$work/expected"
+expect_bytes 65536 'the last line accepted' "$work/expected" < <(repeated '1 0 1 0' 8191; echo '1 0 2 0')
 
 { echo '1 0'; seq -f '%.0f 6' 2 8191; echo '8192 13'; echo 'state 1 2 0 2 0 0 0'; } >"$work/expected"
-expect '65,536 bytes, the last line without byte 10' "$work/expected" < <(repeated '1 0 1 0' 8191; printf '1 0 10 0')
+expect_bytes 65536 'the last line without byte 10' "$work/expected" < <(repeated '1 0 1 0' 8191; printf '1 0 10 0')
 
 { echo '1 13'; echo "$founding"; } >"$work/expected"
-expect '65,536 bytes in one line' "$work/expected" < <(head -c 65536 /dev/zero)
+expect_bytes 65536 'in one line' "$work/expected" < <(head -c 65536 /dev/zero)
 
 echo 'too long' >"$work/expected"
-expect '65,537 bytes' "$work/expected" < <(repeated '1 0 1 0' 8192; echo)
-expect '65,537 bytes in one line' "$work/expected" < <(head -c 65537 /dev/zero)
+expect_bytes 65537 'an empty line last' "$work/expected" < <(repeated '1 0 1 0' 8192; echo)
+expect_bytes 65537 'the last line would be accepted' "$work/expected" < <(repeated '1 0 1 0' 8191; echo '1 0 10 0')
+expect_bytes 65537 'in one line' "$work/expected" < <(head -c 65537 /dev/zero)
 expect 'input without end' "$work/expected" < <(yes '1 0 1 0')
 
 echo "panelrights: $passed inputs, each printed as it should be"

@@ -1,5 +1,5 @@
 #!/usr/bin/env bash
-# Runs the tests of the second implementation: the examples and the readings of document 01, worked out by hand.
+# Runs the tests of the second implementation: the examples of document 01, and its readings (docs/READINGS.md).
 set -euo pipefail
 cd "$(dirname "$0")/.."
 log=$(mktemp)

@@ -37,7 +37,7 @@ pub fn step(s: &Record, bytes: Bytes) -> (u8, Record) {
 }
 
 /// The answer to the access question.
-pub fn access(s: &Record, area: u8, object: u8) -> u16 {
+pub fn access(s: &Record, area: u32, object: u32) -> u16 {
     let answer = plain::access(s, area, object);
     let answers = [
         library::access(&s.bytes(), area, object),
@@ -107,7 +107,7 @@ impl Seen {
         after
     }
 
-    fn question(&mut self, s: &Record, [area, object]: [u8; 2]) {
+    fn question(&mut self, s: &Record, [area, object]: [u32; 2]) {
         const OTHERS: [u16; 4] = [NO_ACCESS as u16, REFUSED + 12, REFUSED + 2, REFUSED + 4];
         let answer = access(s, area, object);
         let kind = OTHERS.iter().position(|&other| other == answer).map_or(0, |i| i + 1);
@@ -143,7 +143,7 @@ impl Seen {
         if chance.once_in(16) {
             question = random::wild(chance, question);
         }
-        self.question(s, question);
+        self.question(s, question.map(u32::from));
         if chance.once_in(4) {
             let file = files::file(s);
             self.file(&file);

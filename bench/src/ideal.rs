@@ -146,7 +146,7 @@ fn last_checks(s: &Rows, turned: &[u32; AREAS], x: Instruction) -> Result<(), u8
 }
 
 /// The number of steps, 255 for no access, or 256 and the refusal.
-pub fn access(s: &Rows, area: u8, object: u8) -> u16 {
+pub fn access(s: &Rows, area: u32, object: u32) -> u16 {
     let turned = turned(&s.structure);
     let moves = Moves { s, turned: &turned };
     if !(is_well_formed(s) && moves.are_valid()) {

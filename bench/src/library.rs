@@ -11,7 +11,7 @@ pub fn step(state: &mut RecordBytes, [code, activator, a, b]: Bytes) -> u8 {
 }
 
 /// The number of steps, 255 for no access, or 256 and the refusal.
-pub fn access(state: &RecordBytes, area: u8, object: u8) -> u16 {
+pub fn access(state: &RecordBytes, area: u32, object: u32) -> u16 {
     // SAFETY: as above.
     unsafe { sys::panelrights_access(state.as_ptr(), state.len(), area, object) }
 }

@@ -105,7 +105,7 @@ pub fn step(s: &Record, bytes: Bytes) -> Result<Record, u8> {
 }
 
 /// The number of steps, 255 for no access, or 256 and the refusal.
-pub fn access(s: &Record, area: u8, object: u8) -> u16 {
+pub fn access(s: &Record, area: u32, object: u32) -> u16 {
     if !is_sound(s) {
         return REFUSED + 12;
     }

@@ -31,7 +31,7 @@ fn acceptable(s: &Record, code: u8) -> Bytes {
 }
 
 /// The area and object with the most steps between the area and the one that defines the object.
-fn farthest(s: &Record) -> (u8, u8, u16) {
+fn farthest(s: &Record) -> (u32, u32, u16) {
     let rows = Rows::of(s);
     let all = (0..32).flat_map(|area| (0..64).map(move |object| (area, object)));
     let answers = all.map(|(area, object)| (area, object, ideal::access(&rows, area, object)));

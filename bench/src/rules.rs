@@ -175,8 +175,8 @@ pub fn obey(s: &mut impl Site, x: Instruction) {
 }
 
 /// The area and object of an access question, or refusal 2 or 4.
-pub fn question(s: &impl Site, area: u8, object: u8) -> Result<(usize, usize), u8> {
-    let (area, object) = (usize::from(area), usize::from(object));
+pub fn question(s: &impl Site, area: u32, object: u32) -> Result<(usize, usize), u8> {
+    let (area, object) = (area as usize, object as usize);
     if area >= AREAS || object >= OBJECTS {
         return Err(2);
     }

@@ -8,8 +8,8 @@ use std::collections::BTreeSet;
 ///
 /// `Ok` where an owner that the area has in `before_list` activates an instruction of the list, or where the guarantee holds between
 /// the two states: "The area's owner, definition, import and export pairs after the list are the same sets as at the start", and what
-/// the area imports or exports can be traced to it. `Err` says what was lost. "does not say that nothing is gained" (READINGS 7) is
-/// about access: the four sets are the same, neither smaller nor larger.
+/// the area imports or exports can be traced to it. `Err` says what was lost. That access may be gained (docs/READINGS.md, 7) is no
+/// breach: the four sets are the same, neither smaller nor larger.
 pub fn lending_guarantee(before_list: &State, list: &[[u8; 4]], after: &State, area: u8) -> Result<(), String> {
     if an_owner_activates(before_list, list, area) {
         return Ok(());

@@ -1,7 +1,7 @@
 //! The site access state machine of document 01, written a second time: sets of pairs instead of arrays of cells.
 //!
 //! Each module follows one section of document 01, and each function quotes the sentence that it stands for.
-//! "READINGS" is the page that says how open places of the papers are read; only its base part is built here.
+//! docs/READINGS.md says how open places of document 01 are read.
 
 #![forbid(unsafe_code)]
 #![warn(missing_docs)]

@@ -5,13 +5,14 @@ use crate::state::State;
 
 /// "For area a and object b the answer is the number of steps in a shortest chain, 0 for the defining area and never above 31, or
 /// 'no access'. Refusals 12, 2, 4 apply in that order, with the same conditions for a and b."
-pub fn access(state: &State, area: u8, object: u8) -> Result<Option<u8>, u8> {
+pub fn access(state: &State, area: u32, object: u32) -> Result<Option<u8>, u8> {
     if !state.is_sound() {
         return Err(12);
     }
-    if area > 31 || object > 63 {
+    // 2: "a user or area above 31, an object above 63", however far above.
+    let (Ok(area @ 0..=31), Ok(object @ 0..=63)) = (u8::try_from(area), u8::try_from(object)) else {
         return Err(2);
-    }
+    };
     if !state.areas.contains(&area) || !state.objects.contains(&object) {
         return Err(4);
     }

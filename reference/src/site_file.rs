@@ -208,11 +208,11 @@ fn label_entry(area: u8, text: &[u8]) -> Vec<u8> {
 /// "The label finder takes file bytes and an area number. It hands back the label's text as a part of the caller's file": the part's
 /// offset and length. "For a refused file, or an area with no label (any number above 31 too), it is the part of length 0 at the
 /// file's front."
-pub fn label(file: &[u8], area: u8) -> (usize, usize) {
+pub fn label(file: &[u8], area: u32) -> (usize, usize) {
     if read_file(file).is_err() {
         return (0, 0);
     }
-    let found = entries(file, LABELS).enumerate().find(|(_, entry)| entry[0] == area);
+    let found = entries(file, LABELS).enumerate().find(|(_, entry)| u32::from(entry[0]) == area);
     match found {
         Some((place, entry)) => (offset(file, LABELS) + place * ENTRY_BYTES[LABELS] + 2, usize::from(entry[1])),
         None => (0, 0),

@@ -1,4 +1,4 @@
-//! The examples of document 01 and the readings 1 to 11, by hand from the papers.
+//! The examples of document 01, and the readings 1 to 11 of docs/READINGS.md.
 
 use reference::*;
 use std::collections::{BTreeMap, BTreeSet};
@@ -460,6 +460,20 @@ fn refusals_of_the_access_question() {
     assert_eq!(access(&state, 0, 9), Ok(Some(0)));
 }
 
+/// "a user or area above 31, an object above 63": none is too large to be refused, nor taken for its low bits.
+#[test]
+fn numbers_above_255_are_2() {
+    let state = from_f(&[[7, 0, 0, 9]]);
+    for above in [256, 65_536, 1 << 24, 1 << 31, u32::MAX - 255] {
+        assert_eq!(access(&state, above, 9), Err(2));
+        assert_eq!(access(&state, 0, above + 9), Err(2));
+        assert_eq!(access(&state, above, above + 9), Err(2));
+        assert_eq!(access(&state, above, 8), Err(2)); // 4 would hold too
+        assert_eq!(access(&state, 1, above + 9), Err(2));
+    }
+    assert_eq!(access(&state, u32::MAX, u32::MAX), Err(2));
+}
+
 #[test]
 fn export_goes_outwards_and_import_inwards() {
     let inner_outer = [[1, 0, 1, 0], [5, 0, 0, 1], [7, 0, 0, 9], [7, 0, 1, 8]]; // area 0 in area 1, 9 in 0, 8 in 1
@@ -477,7 +491,7 @@ fn chain_of_31_steps_and_the_shortest_of_two() {
     }
     let line = from_f(&list);
     for area in 0..=31 {
-        assert_eq!(access(&line, area, 9), Ok(Some(area)));
+        assert_eq!(access(&line, area.into(), 9), Ok(Some(area)));
     }
     refused(&list, [10, 0, 1, 9], 11); // the lost pairs are many steps off
     refused(&list, [6, 0, 2, 1], 11);
@@ -518,7 +532,7 @@ fn least_chain(state: &State, area: u8, object: u8) -> Option<u8> {
 fn answers_are_the_least_chains_of_the_definition() {
     for state in small_states().iter().filter(|state| !state.objects.is_empty()) {
         for &area in &state.areas {
-            assert_eq!(access(state, area, 0), Ok(least_chain(state, area, 0)));
+            assert_eq!(access(state, area.into(), 0), Ok(least_chain(state, area, 0)));
         }
     }
     // six areas of user 0, two objects, and adds and removes of pairs in a fixed disorder
@@ -538,8 +552,9 @@ fn answers_are_the_least_chains_of_the_definition() {
         let code = [5, 5, 9, 9, 11, 11, 6, 10, 12][usize::from(high) % 9];
         let b = if code < 7 { middle % 6 } else { middle % 2 };
         state = run(&state, &[[code, 0, low % 6, b]]);
+        let object = middle % 2;
         for area in 0..6 {
-            assert_eq!(access(&state, area, middle % 2), Ok(least_chain(&state, area, middle % 2)));
+            assert_eq!(access(&state, area.into(), object.into()), Ok(least_chain(&state, area, object)));
         }
     }
     assert!(state.structure.len() > 5 && state.imports.len() + state.exports.len() > 5);
@@ -571,7 +586,7 @@ fn lowest_mark_of_every_byte() {
     }
 }
 
-// READINGS 1 to 7
+// docs/READINGS.md, 1 to 7
 
 #[test]
 fn reading_1_order_of_checks() {
@@ -928,7 +943,22 @@ fn reading_10_label_finder() {
     assert_eq!(label(&bytes, 0), (28 + 6 + 2, 4));
     assert_eq!(label(&bytes, 3), (28 + 6 + 32 + 2, 6));
     assert_eq!(&bytes[68..74], b"LOOP 3");
-    for area in [1, 2, 4, 31, 32, 35, 255] {
+    for area in [
+        1,
+        2,
+        4,
+        31,
+        32,
+        35,
+        255,
+        256,
+        256 + 3,
+        65_536,
+        65_536 + 3,
+        (1 << 31) + 3,
+        u32::MAX - 255,
+        u32::MAX,
+    ] {
         assert_eq!(label(&bytes, area), (0, 0));
     }
     let mut refused = bytes.clone();

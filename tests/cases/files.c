@@ -154,8 +154,8 @@ static size_t number(const char **text, size_t limit)
     return value;
 }
 
-/* Makes the changes, and returns the number after =, or the one given. */
-static size_t change(const char *changes, size_t asked)
+/* Makes the changes, and returns the number after =, at most so large, or the one given. */
+static size_t change(const char *changes, size_t most, size_t asked)
 {
     size_t at = 0;
 
@@ -167,7 +167,7 @@ static size_t change(const char *changes, size_t asked)
             at = number(&changes, ROOM - 1);
         } else if (*changes == '=') {
             changes++;
-            asked = number(&changes, ROOM);
+            asked = number(&changes, most);
         } else if (at < ROOM) {
             room[at++] = (uint8_t)number(&changes, 255);
         } else {
@@ -219,7 +219,7 @@ static void tell(size_t length)
 }
 
 /* The area's label: how many bytes, and the bytes. They stand in the file, behind the area and the length. */
-static void tell_label(size_t file_length, uint8_t area)
+static void tell_label(size_t file_length, uint32_t area)
 {
     uint8_t *file = file_of(file_length);
     uint32_t label = panelrights_label(file, file_length, area);
@@ -253,14 +253,14 @@ static void obey(const char *line)
         fail("this fits no form: %s", line);
     changes = name + strcspn(name, " ");
     length = put_file(name, (size_t)(changes - name));
-    asked = change(changes, asks_label ? ROOM : length);
+    asked = asks_label ? change(changes, UINT32_MAX, SIZE_MAX) : change(changes, ROOM, length);
     printf("%.*s: ", (int)mark, line);
     if (!asks_label)
         tell(asked);
-    else if (asked < 256)
-        tell_label(length, (uint8_t)asked);
+    else if (asked <= UINT32_MAX)
+        tell_label(length, (uint32_t)asked);
     else
-        fail("no area up to 255: %s", line);
+        fail("no area is asked for: %s", line);
 }
 
 /* The refusals of the good file with one byte x changed at a time: plus 1, 0 after 255; or made 255 - x. */

@@ -5,6 +5,7 @@
 #include "cases.h"
 
 #include <ctype.h>
+#include <inttypes.h>
 #include <stdio.h>
 #include <stdlib.h>
 #include <string.h>
@@ -36,8 +37,8 @@ static uint8_t obey(uint8_t code, uint8_t activator, uint8_t a, uint8_t b)
 
 /*
  * Each of these takes the lines of one form, without the spaces at the front. It gives 0 for any other line;
- * or 1, and writes the line as it comes out. Its numbers are those that the library got, so one above 255
- * comes out as another.
+ * or 1, and writes the line as it comes out. Its numbers are those that the library got, so one that does not
+ * fit, above 255 in an instruction, comes out as another.
  */
 static int take_instruction(const char *text, char *worked)
 {
@@ -53,14 +54,14 @@ static int take_instruction(const char *text, char *worked)
 
 static int take_question(const char *text, char *worked)
 {
-    unsigned area, object;
+    uint32_t area, object;
     uint16_t answer;
 
-    if (sscanf(text, "area %3u, object %3u", &area, &object) != 2)
+    if (sscanf(text, "area %10" SCNu32 ", object %10" SCNu32, &area, &object) != 2)
         return 0;
     done.questions++;
-    answer = panelrights_access(site, PANELRIGHTS_STATE_BYTES, (uint8_t)area, (uint8_t)object);
-    worked += sprintf(worked, "area %d, object %d: ", (uint8_t)area, (uint8_t)object);
+    answer = panelrights_access(site, PANELRIGHTS_STATE_BYTES, area, object);
+    worked += sprintf(worked, "area %" PRIu32 ", object %" PRIu32 ": ", area, object);
     if (answer >= PANELRIGHTS_ACCESS_REFUSED)
         sprintf(worked, "refused %d", answer - PANELRIGHTS_ACCESS_REFUSED);
     else if (answer == PANELRIGHTS_NO_ACCESS)

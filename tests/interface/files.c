@@ -73,14 +73,16 @@ static const struct {
 static void refuse(const uint8_t *file, size_t file_len, uint8_t refusal)
 {
     struct guarded site, founding;
-    unsigned area;
+    uint32_t area;
 
     found(&founding);
     memset(&site, 0xa5, sizeof site);
     CHECK_NUMBER(panelrights_read_file(file, file_len, site.state, sizeof site.state), refusal);
     CHECK(memcmp(&site, &founding, sizeof site) == 0);
-    for (area = 0; area < 4; area++)
-        CHECK_NUMBER(panelrights_label(file, file_len, (uint8_t)area), 0);
+    for (area = 0; area < 4; area++) {
+        CHECK_NUMBER(panelrights_label(file, file_len, area), 0);
+        CHECK_NUMBER(panelrights_label(file, file_len, 256 + area), 0);
+    }
 }
 
 static void test_refused(void)
@@ -130,18 +132,24 @@ static void test_accepted(void)
     CHECK_NUMBER(panelrights_access(site.state, sizeof site.state, 0, 9), 2);
 }
 
+/* Areas 1 and 2 have a label; so has no area that is one of them in 8, 16 or 24 bits. */
 static void test_labels(void)
 {
-    unsigned area;
+    static const uint32_t above[] = {65536, 65536 + 256, 1u << 24, 1u << 31, UINT32_MAX - 255};
+    uint32_t area;
+    size_t i;
 
-    for (area = 0; area < 256; area++) {
-        uint32_t label = panelrights_label(good_file, sizeof good_file, (uint8_t)area);
+    for (area = 0; area < 1024; area++) {
+        uint32_t label = panelrights_label(good_file, sizeof good_file, area);
         size_t offset = area == 1 ? 46 : area == 2 ? 78 : 0;
         size_t length = area == 1 ? 6 : area == 2 ? 30 : 0;
 
         CHECK_NUMBER(PANELRIGHTS_LABEL_OFFSET(label), offset);
         CHECK_NUMBER(PANELRIGHTS_LABEL_LENGTH(label), length);
     }
+    for (i = 0; i < sizeof above / sizeof *above; i++)
+        for (area = 0; area < 256; area++)
+            CHECK_NUMBER(panelrights_label(good_file, sizeof good_file, above[i] + area), 0);
 }
 
 void test_files(void)

@@ -24,7 +24,7 @@ static void run_session(struct guarded *site, size_t lines)
         step(site, session[i].instruction, session[i].answer);
 }
 
-static uint16_t ask(const struct guarded *site, uint8_t area, uint8_t object)
+static uint16_t ask(const struct guarded *site, uint32_t area, uint32_t object)
 {
     return panelrights_access(site->state, sizeof site->state, area, object);
 }
@@ -103,18 +103,89 @@ static void test_refusals(void)
     step(&site, list_area, PANELRIGHTS_UNSOUND_STATE);
 }
 
+/* Numbers after line 8 of the session, each with what it is refused as: 0 if it is listed. */
+struct edge {
+    uint32_t number;
+    uint8_t refusal;
+};
+
+static const struct edge areas[] = {
+    {0, 0},
+    {1, 0},
+    {2, 0},
+    {3, 4},
+    {31, 4},
+    {32, 2},
+    {63, 2},
+    {64, 2},
+    {255, 2},
+    {256, 2},
+    {256 + 1, 2},
+    {256 + 2, 2},
+    {256 + 31, 2},
+    {65536, 2},
+    {65536 + 1, 2},
+    {65536 + 31, 2},
+    {1u << 24, 2},
+    {(1u << 31) + 1, 2},
+    {UINT32_MAX - 255, 2},
+    {UINT32_MAX, 2},
+};
+
+static const struct edge objects[] = {
+    {9, 0},
+    {8, 4},
+    {31, 4},
+    {32, 4},
+    {63, 4},
+    {64, 2},
+    {255, 2},
+    {256, 2},
+    {256 + 8, 2},
+    {256 + 9, 2},
+    {256 + 63, 2},
+    {65536, 2},
+    {65536 + 9, 2},
+    {65536 + 63, 2},
+    {(1u << 24) + 9, 2},
+    {(1u << 31) + 9, 2},
+    {UINT32_MAX - 255 + 9, 2},
+    {UINT32_MAX, 2},
+};
+
+/* The answer for an area and an object: 12 first, then 2, then 4; else so many steps. */
+static uint16_t expected_answer(int sound, const struct edge *area, const struct edge *object)
+{
+    static const uint16_t steps[] = {2, 0, 1};
+
+    if (!sound)
+        return 256 + 12;
+    if (area->refusal == 2 || object->refusal == 2)
+        return 256 + 2;
+    if (area->refusal == 4 || object->refusal == 4)
+        return 256 + 4;
+    return steps[area->number];
+}
+
+static void ask_edges(const struct guarded *site, int sound)
+{
+    size_t i, j;
+
+    for (i = 0; i < sizeof areas / sizeof *areas; i++)
+        for (j = 0; j < sizeof objects / sizeof *objects; j++)
+            CHECK_NUMBER(ask(site, areas[i].number, objects[j].number),
+                         expected_answer(sound, &areas[i], &objects[j]));
+}
+
 static void test_access(void)
 {
     struct guarded site;
 
     run_session(&site, 8);
-    CHECK_NUMBER(ask(&site, 32, 9), PANELRIGHTS_ACCESS_REFUSED + PANELRIGHTS_OUT_OF_RANGE);
-    CHECK_NUMBER(ask(&site, 0, 64), PANELRIGHTS_ACCESS_REFUSED + PANELRIGHTS_OUT_OF_RANGE);
-    CHECK_NUMBER(ask(&site, 255, 255), PANELRIGHTS_ACCESS_REFUSED + PANELRIGHTS_OUT_OF_RANGE);
-    CHECK_NUMBER(ask(&site, 3, 9), PANELRIGHTS_ACCESS_REFUSED + PANELRIGHTS_NOT_LISTED);
-    CHECK_NUMBER(ask(&site, 0, 8), PANELRIGHTS_ACCESS_REFUSED + PANELRIGHTS_NOT_LISTED);
+    ask_edges(&site, 1);
+    CHECK_NUMBER(panelrights_access(site.state, sizeof site.state - 1, 256, 9), 256 + 12);
     site.state[AREA_AT(3)] = 1;
-    CHECK_NUMBER(ask(&site, 32, 9), PANELRIGHTS_ACCESS_REFUSED + PANELRIGHTS_UNSOUND_STATE);
+    ask_edges(&site, 0);
 }
 
 void test_machine(void)

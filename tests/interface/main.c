@@ -16,6 +16,7 @@ static void test_marks(void)
 
 int main(void)
 {
+    test_names();
     test_machine();
     test_records();
     test_files();

@@ -44,6 +44,7 @@ void step(struct guarded *site, const uint8_t instruction[4], uint8_t refusal);
 enum { GOOD_FILE_BYTES = 108 };
 extern const uint8_t good_file[GOOD_FILE_BYTES];
 
+void test_names(void);
 void test_machine(void);
 void test_records(void);
 void test_files(void);

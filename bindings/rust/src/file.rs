@@ -26,9 +26,9 @@ pub fn read_file(file: &[u8]) -> Result<State, Refusal> {
     }
 }
 
-/// The text of the area's label, as a part of the site file: 1 to 30 characters from space to `~`. `None` if the area has no
-/// label, as no number above 31 has, or if the file is refused.
-pub fn label(file: &[u8], area: u8) -> Option<&str> {
+/// The text of the area's label, as a part of the site file: 1 to 30 characters from space to `~`. `None` if the area
+/// has no label, as no number above 31 has (256 is not area 0), or if the file is refused.
+pub fn label(file: &[u8], area: u32) -> Option<&str> {
     // SAFETY: the pointer is that of a live slice, handed over with its length.
     let place = unsafe { sys::panelrights_label(file.as_ptr(), file.len(), area) };
     let (offset, length) = ((place >> 16) as usize, (place & 0xffff) as usize);

@@ -87,7 +87,7 @@ impl State {
         let record: &[u8; sys::STATE_BYTES] = bytes.try_into().map_err(|_| Refusal::BufferLength)?;
         let state = State { record: Box::new(*record) };
         // The access question is refused as 12 before its numbers are looked at, which here are out of range.
-        match state.access(AREAS, OBJECTS) {
+        match state.access(AREAS.into(), OBJECTS.into()) {
             Err(Refusal::OutOfRange) => Ok(state),
             _ => Err(Refusal::UnsoundState),
         }
@@ -117,10 +117,10 @@ impl State {
         }
     }
 
-    /// In how many steps does the object reach the area? The number of steps in a shortest chain, 0 for the area that defines it
-    /// and never above 31; `None` for no access. Refused are numbers out of range ([`Refusal::OutOfRange`]) and what is not
-    /// listed ([`Refusal::NotListed`]).
-    pub fn access(&self, area: u8, object: u8) -> Result<Option<u8>, Refusal> {
+    /// In how many steps does the object reach the area? The number of steps in a shortest chain, 0 for the area that
+    /// defines it and never above 31; `None` for no access. Refused are numbers out of range ([`Refusal::OutOfRange`];
+    /// 256 is no area, and not area 0) and what is not listed ([`Refusal::NotListed`]).
+    pub fn access(&self, area: u32, object: u32) -> Result<Option<u8>, Refusal> {
         // SAFETY: the pointer is that of a live array, handed over with its length.
         let answer = unsafe { sys::panelrights_access(self.record.as_ptr(), self.record.len(), area, object) };
         let [low, _] = answer.to_le_bytes();

@@ -31,11 +31,12 @@ extern "C" {
     /// `state_len` bytes may be read and written at `state`.
     pub fn panelrights_step(state: *mut u8, state_len: usize, code: u8, activator: u8, a: u8, b: u8) -> u8;
 
-    /// The number of steps in a shortest chain to the area, [`NO_ACCESS`], or [`ACCESS_REFUSED`] and the refusal.
+    /// The number of steps in a shortest chain to the area, [`NO_ACCESS`], or [`ACCESS_REFUSED`] and the refusal. 256
+    /// is no area, and not area 0.
     ///
     /// # Safety
     /// `state_len` bytes may be read at `state`.
-    pub fn panelrights_access(state: *const u8, state_len: usize, area: u8, object: u8) -> u16;
+    pub fn panelrights_access(state: *const u8, state_len: usize, area: u32, object: u32) -> u16;
 
     /// Reads a site file. 0, and the record is that of its state; or 21 to 29, and it is that of the founding state; or 31,
     /// and no byte is written.
@@ -44,11 +45,12 @@ extern "C" {
     /// `file_len` bytes may be read at `file`, `state_len` bytes read and written at `state`, and the two do not overlap.
     pub fn panelrights_read_file(file: *const u8, file_len: usize, state: *mut u8, state_len: usize) -> u8;
 
-    /// Where the label's text stands in the file: offset * 65536 + length, or 0 for none.
+    /// Where the label's text stands in the file: offset * 65536 + length, or 0 for none. 256 is no area, and not area
+    /// 0.
     ///
     /// # Safety
     /// `file_len` bytes may be read at `file`.
-    pub fn panelrights_label(file: *const u8, file_len: usize, area: u8) -> u32;
+    pub fn panelrights_label(file: *const u8, file_len: usize, area: u32) -> u32;
 
     /// The place (0 to 7) of the lowest mark set in a byte, 8 if none.
     ///

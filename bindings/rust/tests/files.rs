@@ -76,13 +76,16 @@ fn refused_files() {
 #[test]
 fn labels() {
     let file = good();
-    for area in 0..=255 {
+    for area in 0..1024 {
         let expected = match area {
             1 => Some("~ "),
             2 => Some(THIRTY),
             _ => None,
         };
         assert_eq!(label(&file, area), expected, "{area}");
+    }
+    for above in [1 << 16, 1 << 24, 1 << 31, u32::MAX - 255] {
+        assert_eq!(label(&file, above + 2), None, "{above}");
     }
     let text = label(&file, 2).unwrap();
     assert_eq!(text.as_ptr(), file[file.len() - 30..].as_ptr(), "the text is a part of the caller's file");

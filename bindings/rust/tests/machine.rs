@@ -70,9 +70,29 @@ fn session_by_name() {
         Kind::RemoveStructure { inner: 0, outer: 2 }.by(4),
     ];
     assert_eq!(named, SESSION.map(|(instruction, _)| Instruction::from(instruction)));
-    assert_eq!(Kind::UnlistArea { area: 7 }.by(3), [2, 3, 7, 0].into());
-    assert_eq!(Kind::RemoveOwner { area: 7, user: 5 }.by(3), [4, 3, 7, 5].into());
-    assert_eq!(Kind::RemoveDefinition { area: 7, object: 63 }.by(3), [8, 3, 7, 63].into());
+}
+
+/// Each name against the code and the places of document 01's table.
+#[test]
+fn each_kind_has_its_code() {
+    let (area, user, object, inner, outer) = (7, 5, 63, 11, 22);
+    let kinds = [
+        (Kind::ListArea { area }, [1, 3, 7, 0]),
+        (Kind::UnlistArea { area }, [2, 3, 7, 0]),
+        (Kind::AddOwner { area, user }, [3, 3, 7, 5]),
+        (Kind::RemoveOwner { area, user }, [4, 3, 7, 5]),
+        (Kind::AddStructure { inner, outer }, [5, 3, 11, 22]),
+        (Kind::RemoveStructure { inner, outer }, [6, 3, 11, 22]),
+        (Kind::Define { area, object }, [7, 3, 7, 63]),
+        (Kind::RemoveDefinition { area, object }, [8, 3, 7, 63]),
+        (Kind::AddImport { area, object }, [9, 3, 7, 63]),
+        (Kind::RemoveImport { area, object }, [10, 3, 7, 63]),
+        (Kind::AddExport { area, object }, [11, 3, 7, 63]),
+        (Kind::RemoveExport { area, object }, [12, 3, 7, 63]),
+    ];
+    for (kind, bytes) in kinds {
+        assert_eq!(kind.by(3), bytes.into());
+    }
 }
 
 #[test]
@@ -120,6 +140,18 @@ fn refusals_of_the_access_question() {
     assert_eq!(after(&[[7, 0, 0, 9], [1, 0, 1, 0]]).access(1, 9), Ok(None));
 }
 
+/// No number above 255 is taken for what its low bits are.
+#[test]
+fn numbers_above_255_are_out_of_range() {
+    let state = after(&[[7, 0, 0, 9]]);
+    for above in [1 << 8, 1 << 16, 1 << 24, 1 << 31, u32::MAX - 255] {
+        for (area, object) in [(above, 9), (0, above + 9), (above, above + 9), (above, 8), (1, above + 9)] {
+            assert_eq!(state.access(area, object), Err(Refusal::OutOfRange), "{area}, {object}");
+        }
+    }
+    assert_eq!(state.access(u32::MAX, u32::MAX), Err(Refusal::OutOfRange));
+}
+
 /// Areas in a row, each in the next: the last is 31 steps from the definer.
 #[test]
 fn the_longest_chain() {
@@ -134,7 +166,7 @@ fn the_longest_chain() {
         }
     }
     for area in 0..32 {
-        assert_eq!(state.access(area, 63), Ok(Some(area)));
+        assert_eq!(state.access(area.into(), 63), Ok(Some(area)));
     }
     assert_eq!(state.step([12, 0, 0, 63]), Err(Refusal::WouldLoseAccess), "the lost pairs are up to 30 steps off");
 }

@@ -6,6 +6,7 @@ use panelrights::{sys, Refusal, State, AREAS, OBJECTS, USERS};
 fn a_record_has_the_length_that_the_library_says() {
     // SAFETY: nothing is asked of a caller.
     assert_eq!(unsafe { sys::panelrights_state_bytes() }, sys::STATE_BYTES);
+    assert_eq!((sys::STATE_BYTES, sys::NO_ACCESS, sys::ACCESS_REFUSED), (8320, 255, 256));
     assert_eq!(State::founding().as_record().len(), sys::STATE_BYTES);
 }
 

@@ -17,8 +17,41 @@ fn each_number_has_one_refusal() {
             assert_eq!(refusal, Err(NoRefusal(number)));
         }
     }
-    assert_eq!(Refusal::try_from(29), Ok(Refusal::FileLacksAccess));
     assert_eq!(Refusal::Unknown(200).number(), 200);
+}
+
+/// Each name against the number of document 01, or of the header for 31.
+#[test]
+fn each_name_has_its_number() {
+    let numbers = [
+        (Refusal::UnknownCode, 1),
+        (Refusal::OutOfRange, 2),
+        (Refusal::ActivatorUnlisted, 3),
+        (Refusal::NotListed, 4),
+        (Refusal::NotOwner, 5),
+        (Refusal::AlreadyThere, 6),
+        (Refusal::NotThere, 7),
+        (Refusal::LastOne, 8),
+        (Refusal::AreaInUse, 9),
+        (Refusal::WouldLackAccess, 10),
+        (Refusal::WouldLoseAccess, 11),
+        (Refusal::UnsoundState, 12),
+        (Refusal::FileTooShort, 21),
+        (Refusal::FileVersion, 22),
+        (Refusal::FileLength, 23),
+        (Refusal::FileCount, 24),
+        (Refusal::FileOffset, 25),
+        (Refusal::FileRange, 26),
+        (Refusal::FileOrder, 27),
+        (Refusal::FileLists, 28),
+        (Refusal::FileLacksAccess, 29),
+        (Refusal::BufferLength, 31),
+    ];
+    assert!(numbers.iter().map(|&(_, number)| number).eq(named()));
+    for (refusal, number) in numbers {
+        assert_eq!(refusal.number(), number, "{refusal:?}");
+        assert_eq!(Refusal::try_from(number), Ok(refusal));
+    }
 }
 
 #[test]

@@ -1,4 +1,4 @@
--- The claims of specs/Claims.antt, each proved under its name.
+-- The claims of specs/Claims.antt and the laws of specs/Laws.antt, each proved under its name.
 -- Assumes nothing.
 use Prim.Native.Nat.{ℕ, zero, suc, _≤_, _<_, zero-le}
 use mathlib.Core.Path.{_≡_, refl, sym, ap, subst, fun-ext, _∙_}
@@ -9,26 +9,30 @@ use native.Mathlib.Decide.{decLt}
 use native.Mathlib.Nat.{le-antisymm}
 use borrow.Author.Tests.{ne-eqb}
 use lib.Dec.{T, eqb}
-use lib.ListN.{getD}
+use lib.ListN.{getD, List·getD-eq-default}
 use Rattle.state.specs.Cells.{Pairs, pair}
 use Rattle.rows.specs.Rows.{row, transpose}
 use Rattle.rows.proofs.Laws.{row-reads, transpose-reads}
 use Rattle.state.specs.Site.{area, object, limit, owner, definition, structure, import, export, related, withPair}
 use Rattle.state.specs.declared.State.{State}
 use Rattle.state.proofs.Bools.{or-left, or-right, or-cases, and-both, and-left, and-right, is-true, is-false, fails, holds}
-use Rattle.state.proofs.Tabulate.{getD-tabulate, same-table}
+use Rattle.state.proofs.Tabulate.{length-tabulate, getD-tabulate, same-table}
 use Rattle.state.proofs.Laws.{related-other, related-outside, add-keeps-pairs, remove-adds-none}
-use Rattle.access.specs.Lending.{Lending, step, moveBy, lending, lendingOf}
+use Rattle.access.specs.Lending.{Lending, step, lending, lendingOf}
+use Rattle.access.specs.Rounds.{moveBy}
 use Rattle.access.specs.Chain.{Chain, here, onward, ObjectChain}
-use Rattle.access.specs.Answer.{longest, has, reached, answerWithin, nextAnswer, answer, access, unreached, number, countsWithin, leastCounts}
+use Rattle.access.specs.Answer.{longest, has, reached, answerWithin, nextAnswer, answer, access, unreached}
+use Rattle.access.specs.Answer.{answerNumber, countsWithin, leastCounts, leastCount}
 use Rattle.access.specs.Claims
-use Rattle.access.specs.Claims.{InSteps, RightWithin, Right, isSteps, Included}
+use Rattle.access.specs.Claims.{InSteps, RightWithin, Right, isSteps}
+use Rattle.access.specs.Laws
+use Rattle.access.specs.Laws.{Included}
 use Rattle.access.specs.declared.Answer.{Answer}
 use Rattle.access.specs.declared.Answer.the-variants.{Steps, NoAccess}
 use Rattle.access.proofs.Reach.{chain-area, reached-area, chain-of, reached-by}
 use Rattle.access.proofs.Saturate
 
-pub short-chains : Claims.ShortChains
+pub short-chains : Laws.ShortChains
 short-chains = Saturate.short-chains
 
 -- ---- the answer is right
@@ -65,7 +69,7 @@ module _ (start : ℕ → Bool) (move : ℕ → ℕ → Bool) where
   right-next n a NoAccess true e r = first-reached n a r (holds e)
   right-next n a NoAccess false e r = none-within (suc n) a e
 
-pub answer-within-is-right : Claims.AnswerWithinIsRight
+pub answer-within-is-right : Laws.AnswerWithinIsRight
 unfolding answerWithin
 answer-within-is-right start move zero a = right-at-start start move a (has (reached start move zero) a) refl
 answer-within-is-right start move (suc n) a =
@@ -92,10 +96,6 @@ pub one-answer : Claims.OneAnswer
 one-answer l a = one-within (l .definedIn) (step l) longest a
 
 -- ---- access
-pub access-is-chain : Claims.AccessIsChain
-unfolding access
-access-is-chain l a = (chain-of (l .definedIn) (step l) longest a, λ r. reached-by (l .definedIn) (step l) longest (r .2) (r .1))
-
 -- an area is reached within n steps where the answer up to n is a number of steps
 pub reached-is-steps : (start : ℕ → Bool) (move : ℕ → ℕ → Bool) (n a : ℕ) → has (reached start move n) a ≡ isSteps (answerWithin start move n a)
 reached-is-steps start move n a = go (answerWithin start move n a) (answer-within-is-right start move n a)
@@ -108,26 +108,69 @@ pub access-is-steps : Claims.AccessIsSteps
 unfolding access answer
 access-is-steps l a = reached-is-steps (l .definedIn) (step l) longest a
 
+pub access-is-short-chain : Laws.AccessIsShortChain
+unfolding access
+access-is-short-chain l a = (
+  chain-of (l .definedIn) (step l) longest a,
+  λ r. reached-by (l .definedIn) (step l) longest (r .2) (r .1),
+)
+
+pub access-is-chain : Claims.AccessIsChain
+unfolding longest
+access-is-chain l a = (
+  λ t. let c = access-is-short-chain l a .0 t in (c .0, c .2),
+  λ r.
+      let s = short-chains (l .definedIn) (step l) (r .0) a (r .1) in
+      access-is-short-chain l a .1 (s .0, omega (arith, s .1), s .2),
+)
+
+pub at-most-31 : Claims.AtMost31
+unfolding longest
+at-most-31 l a n e = let r = subst (Right l a) e (answer-is-right l a) in r .short
+
 -- the count of an area in the table of counts
-pub count-at : (start : ℕ → Bool) (move : ℕ → ℕ → Bool) (n a : ℕ) → a < limit area → getD (countsWithin start move n) a 0 ≡ number (answerWithin start move n a)
+pub count-at : (start : ℕ → Bool) (move : ℕ → ℕ → Bool) (n a : ℕ) → a < limit area → getD (countsWithin start move n) a 0 ≡ answerNumber (answerWithin start move n a)
 unfolding countsWithin
 count-at start move n a h = getD-tabulate _ (limit area) a 0 h
 
-pub count-is-answer : Claims.CountIsAnswer
+pub count-is-answer : Laws.CountIsAnswer
 unfolding leastCounts answer
 count-is-answer l a h = count-at (l .definedIn) (step l) longest a h
 
+-- no chain leads past the areas
+pub outside : (l : Lending) (a : ℕ) → limit area ≤ a → answer l a ≡ NoAccess
+outside l a h =
+    one-answer l a (answer l a) NoAccess (answer-is-right l a)
+    (λ n short c. let inside = chain-area (l .definedIn) (step l) c in omega arith)
+
+count-inside : (l : Lending) (a : ℕ) → a < limit area → answerNumber (answer l a) ≡ leastCount l a
+unfolding leastCounts countsWithin answer
+count-inside l a h = sym (getD-tabulate _ (limit area) a _ h)
+
+count-outside : (l : Lending) (a : ℕ) → limit area ≤ a → leastCount l a ≡ unreached
+unfolding leastCounts countsWithin
+count-outside l a h = List·getD-eq-default (leastCounts l) unreached (rw (length-tabulate _ (limit area)) h)
+
+pub number-is-count : Laws.NumberIsCount
+number-is-count l a = go (decLt a (limit area))
+  where
+    go : Dec (a < limit area) → answerNumber (answer l a) ≡ leastCount l a
+    go (yes h) = count-inside l a h
+    go (no h) =
+        let past : limit area ≤ a = omega arith in
+        ap answerNumber (outside l a past) ∙ sym (count-outside l a past)
+
 -- no number of steps is that of 'no access'
-counted : (l : Lending) (a : ℕ) (x : Answer) → Right l a x → isSteps x ≡ not (eqb (number x) unreached)
+counted : (l : Lending) (a : ℕ) (x : Answer) → Right l a x → isSteps x ≡ not (eqb (answerNumber x) unreached)
 unfolding longest
 counted l a (Steps k) r = sym (ap not (ne-eqb k unreached (λ e. omega (arith, r .short))))
 counted l a NoAccess r = refl
 
-pub access-is-count : Claims.AccessIsCount
+pub access-is-count : Laws.AccessIsCount
 access-is-count l a h =
     access-is-steps l a ∙ counted l a (answer l a) (answer-is-right l a) ∙ ap (λ (n : ℕ). not (eqb n unreached)) (sym (count-is-answer l a h))
 
-pub access-is-area : Claims.AccessIsArea
+pub access-is-area : Laws.AccessIsArea
 unfolding access
 access-is-area l a t = reached-area (l .definedIn) (step l) longest a t
 
@@ -136,8 +179,8 @@ chain-start : {start : ℕ → Bool} {move : ℕ → ℕ → Bool} {n a : ℕ} �
 chain-start (here {a = d} h t) = (d, h, t)
 chain-start (onward c h t) = chain-start c
 
-pub access-is-defined : Claims.AccessIsDefined
-access-is-defined l a t = chain-start (access-is-chain l a .0 t .2)
+pub access-is-defined : Laws.AccessIsDefined
+access-is-defined l a t = chain-start (access-is-chain l a .0 t .1)
 
 -- ---- more pairs
 -- a chain stays one where more starts and more steps are allowed
@@ -178,11 +221,12 @@ step-included l k included s r hs hr t = go (or-cases (l .exportedBy s && l .wit
 chain-included : (l k : Lending) → Included l k → (n a : ℕ) → ObjectChain l n a → ObjectChain k n a
 chain-included l k included n a c = chain-by (l .definedIn) (k .definedIn) (step l) (step k) (included .definedIn) (step-included l k included) c
 
-pub more-keeps-access : Claims.MoreKeepsAccess
+pub more-keeps-access : Laws.MoreKeepsAccess
 more-keeps-access l k included a t =
-    let c = access-is-chain l a .0 t in access-is-chain k a .1 (c .0, c .1, chain-included l k included (c .0) a (c .2))
+    let c = access-is-short-chain l a .0 t in
+    access-is-short-chain k a .1 (c .0, c .1, chain-included l k included (c .0) a (c .2))
 
-pub equal-answers : Claims.EqualAnswers
+pub equal-answers : Laws.EqualAnswers
 unfolding answer
 equal-answers l k there back a =
     same-within (l .definedIn) (k .definedIn) (step l) (step k) longest a (λ m. chain-included l k there m a) (λ m. chain-included k l back m a)
@@ -201,7 +245,7 @@ counts-of-transpose : (ds st im ex : Pairs) (o : ℕ) → countsWithin (pair ds 
 unfolding countsWithin leastCounts
 counts-of-transpose ds st im ex o =
     same-table _ _ 0 (limit area)
-    (λ a h. ap number
+    (λ a h. ap answerNumber
     (same-within start start move (step l) longest a
     (λ m. chain-by start start move (step l) (λ b hb t. t) (λ s r hs hr t. subst T (transpose-step ds st im ex o s r hs hr) t))
     (λ m. chain-by start start (step l) move (λ b hb t. t) (λ s r hs hr t. subst T (sym (transpose-step ds st im ex o s r hs hr)) t))))
@@ -215,11 +259,11 @@ counts-of-transpose ds st im ex o =
     l : Lending
     l = lendingOf ds st im ex o
 
-pub counts-of-rows : Claims.CountsOfRows
+pub counts-of-rows : Laws.CountsOfRows
 counts-of-rows ds st im ex o = rw (row-test ds o, row-test im o, row-test ex o) (counts-of-transpose ds st im ex o)
 
 -- ---- of a state
-pub access-is-object : Claims.AccessIsObject
+pub access-is-object : Laws.AccessIsObject
 access-is-object s o a shaped t = go (decLt o (limit object))
   where
     go : Dec (o < limit object) → o < limit object
@@ -238,7 +282,7 @@ same-lending s t o d m e w i = record { definedIn = λ a. d a i; importedBy = λ
 not-the-same : _≡_ {A = ℕ} 0 1 → ⊥
 not-the-same e = omega arith
 
-pub other-pairs : Claims.OtherPairs
+pub other-pairs : Laws.OtherPairs
 other-pairs s owner p j v o d = refl
 other-pairs s definition p j v o (inl e) = absurd (not-the-same (cc))
 other-pairs s definition p j v o (inr h) =
@@ -252,10 +296,10 @@ other-pairs s export p j v o (inl e) = absurd (not-the-same (cc))
 other-pairs s export p j v o (inr h) =
     same-lending (withPair s export p j v) s o (λ a. refl) (λ a. refl) (λ a. related-other s export p j o a v (λ e q. h .1 e)) (λ a b. refl)
 
-pub lists-do-not-matter : Claims.ListsDoNotMatter
+pub lists-do-not-matter : Laws.ListsDoNotMatter
 lists-do-not-matter s k i v o = refl
 
-pub added-is-included : Claims.AddedIsIncluded
+pub added-is-included : Laws.AddedIsIncluded
 added-is-included s r i j o =
     record {
       definedIn = λ a h. add-keeps-pairs s r definition i j o a;
@@ -264,7 +308,7 @@ added-is-included s r i j o =
       within = λ a b h g. add-keeps-pairs s r structure i j a b;
     }
 
-pub removed-is-included : Claims.RemovedIsIncluded
+pub removed-is-included : Laws.RemovedIsIncluded
 removed-is-included s r i j o =
     record {
       definedIn = λ a h. remove-adds-none s r definition i j o a;

@@ -1,4 +1,4 @@
--- Laws has the claims of specs/Claims.antt, for the layers above; the others are this crate's own.
+-- Laws has the claims and laws of specs/, for the layers above; the others are this crate's own.
 mod Reach
 mod Saturate
 mod Search

@@ -15,7 +15,7 @@ use Rattle.state.proofs.Tabulate.{length-tabulate, tabulate-is}
 use Rattle.state.proofs.Bools.{or-left, or-cases, same-test}
 use Rattle.access.specs.Chain.{Chain}
 use Rattle.access.specs.Answer.{Areas, has, someArea, spread, reached}
-use Rattle.access.specs.Claims.{ShortChains}
+use Rattle.access.specs.Laws.{ShortChains}
 use Rattle.state.proofs.Walk.{some-found}
 use Rattle.access.proofs.Reach.{reached-more, chain-of, reached-by}
 

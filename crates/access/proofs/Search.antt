@@ -14,7 +14,7 @@ use Rattle.state.specs.Tabulate.{tabulate}
 use Rattle.state.specs.Site.{area, limit}
 use Rattle.state.proofs.Tabulate.{same-table}
 use Rattle.state.proofs.Bools.{and-both, and-left, and-right, same-test, test, fails}
-use Rattle.access.specs.Answer.{Areas, has, someArea, reached, answerWithin, nextAnswer, unreached, number, countsWithin}
+use Rattle.access.specs.Answer.{Areas, has, someArea, reached, answerWithin, nextAnswer, unreached, answerNumber, countsWithin}
 use Rattle.access.specs.Claims.{RightWithin, isSteps}
 use Rattle.access.specs.Rounds.{nextTo, uncounted, countedAs, anyArea}
 use Rattle.access.specs.declared.Answer.{Answer}
@@ -45,10 +45,10 @@ module _ (start : ℕ → Bool) (move : ℕ → ℕ → Bool) where
 
   -- ---- the counts
   -- an area has no count where it is not reached
-  no-count : (n a : ℕ) → n < unreached → eqb (number (answerWithin start move n a)) unreached ≡ not (has (reached start move n) a)
+  no-count : (n a : ℕ) → n < unreached → eqb (answerNumber (answerWithin start move n a)) unreached ≡ not (has (reached start move n) a)
   no-count n a h = go (answerWithin start move n a) (answer-within-is-right start move n a) (reached-is-steps start move n a)
     where
-      go : (x : Answer) → RightWithin start move n a x → has (reached start move n) a ≡ isSteps x → eqb (number x) unreached ≡ not (has (reached start move n) a)
+      go : (x : Answer) → RightWithin start move n a x → has (reached start move n) a ≡ isSteps x → eqb (answerNumber x) unreached ≡ not (has (reached start move n) a)
       go (Steps k) r e = rw e (ne-eqb k unreached (λ (q : k ≡ unreached). omega (arith, r .short)))
       go NoAccess r e = rw e
 
@@ -56,7 +56,7 @@ module _ (start : ℕ → Bool) (move : ℕ → ℕ → Bool) where
   unfolding layer countedAs countsWithin answerWithin
   counts-start = same-table _ _ 0 (limit area) (λ a h. ap (cond (has (reached start move zero) a) 0) (getD-replicate 32 a unreached 0 h) ∙ go (has (reached start move zero) a))
     where
-      go : (b : Bool) → cond b 0 unreached ≡ number (cond b (Steps 0) NoAccess)
+      go : (b : Bool) → cond b 0 unreached ≡ answerNumber (cond b (Steps 0) NoAccess)
       go true = refl
       go false = refl
 
@@ -98,13 +98,13 @@ module _ (start : ℕ → Bool) (move : ℕ → ℕ → Bool) where
           ap₂ (λ (x y : Bool). x && y) (has-tabulate _ a ha) (ap (λ (k : ℕ). eqb k unreached) (count-at start move n a ha) ∙ no-count n a h) ∙ new-is-next n a ha
 
   -- a count of the next round: that of the last one, or the round's number for an area of the new layer
-  count-next : (n a : ℕ) → cond (has (reached start move (suc n)) a && not (has (reached start move n) a)) (suc n) (number (answerWithin start move n a)) ≡ number (answerWithin start move (suc n) a)
+  count-next : (n a : ℕ) → cond (has (reached start move (suc n)) a && not (has (reached start move n) a)) (suc n) (answerNumber (answerWithin start move n a)) ≡ answerNumber (answerWithin start move (suc n) a)
   unfolding answerWithin
   count-next n a =
-      ap (λ (b : Bool). cond (has (reached start move (suc n)) a && not b) (suc n) (number (answerWithin start move n a))) (reached-is-steps start move n a)
+      ap (λ (b : Bool). cond (has (reached start move (suc n)) a && not b) (suc n) (answerNumber (answerWithin start move n a))) (reached-is-steps start move n a)
       ∙ go (answerWithin start move n a) (has (reached start move (suc n)) a)
     where
-      go : (x : Answer) (b : Bool) → cond (b && not (isSteps x)) (suc n) (number x) ≡ number (nextAnswer x n b)
+      go : (x : Answer) (b : Bool) → cond (b && not (isSteps x)) (suc n) (answerNumber x) ≡ answerNumber (nextAnswer x n b)
       go (Steps k) true = refl
       go (Steps k) false = refl
       go NoAccess true = refl
@@ -114,7 +114,7 @@ module _ (start : ℕ → Bool) (move : ℕ → ℕ → Bool) where
   unfolding layer countedAs countsWithin
   counts-next n = same-table _ _ 0 (limit area) each
     where
-      each : (a : ℕ) → a < limit area → cond (has (layer (suc n)) a) (suc n) (getD (countsWithin start move n) a 0) ≡ number (answerWithin start move (suc n) a)
+      each : (a : ℕ) → a < limit area → cond (has (layer (suc n)) a) (suc n) (getD (countsWithin start move n) a 0) ≡ answerNumber (answerWithin start move (suc n) a)
       each a h = ap₂ (λ (b : Bool) (k : ℕ). cond b (suc n) k) (has-tabulate _ a h) (count-at start move n a h) ∙ count-next n a
 
   -- ---- the end
@@ -149,7 +149,7 @@ module _ (start : ℕ → Bool) (move : ℕ → ℕ → Bool) where
   -- and the counts stay as they are
   pub counts-stay : (n k : ℕ) → Stable start move n → countsWithin start move (n + k) ≡ countsWithin start move n
   unfolding countsWithin
-  counts-stay n k e = same-table _ _ 0 (limit area) (λ a h. ap number (same k a))
+  counts-stay n k e = same-table _ _ 0 (limit area) (λ a h. ap answerNumber (same k a))
     where
       same : (k a : ℕ) → answerWithin start move (n + k) a ≡ answerWithin start move n a
       same zero a = ap (λ (m : ℕ). answerWithin start move m a) (add-zero n)

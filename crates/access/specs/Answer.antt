@@ -1,5 +1,5 @@
--- The answer to the access question for an area and an object, as a definition that can be computed. That it is the least number of steps, or that
--- there is no chain, is claimed in Claims.antt.
+-- The answer to the access question for an area and an object, as a definition that can be computed. That it is the
+-- least number of steps, or that there is no chain, is claimed in Claims.antt.
 use Prim.Native.Nat.{ℕ, zero, suc}
 use mathlib.Core.Bool.{Bool, false, _||_, cond}
 use mathlib.Core.List.{List}
@@ -11,7 +11,8 @@ use Rattle.access.specs.Lending.{Lending, step}
 use Rattle.access.specs.declared.Answer.{Answer}
 use Rattle.access.specs.declared.Answer.the-variants.{Steps, NoAccess}
 
--- "never above 31": how many steps are looked at. There being 32 areas, no shortest chain is longer (Claims.antt, ShortChains).
+-- "never above 31": how many steps are looked at. There being 32 areas, no shortest chain is longer (Laws.antt,
+-- ShortChains).
 unfoldable pub longest : ℕ
 longest = 31
 
@@ -46,11 +47,13 @@ unfoldable pub answerWithin : (ℕ → Bool) → (ℕ → ℕ → Bool) → ℕ 
 answerWithin start move zero a = cond (has (reached start move zero) a) (Steps 0) NoAccess
 answerWithin start move (suc n) a = nextAnswer (answerWithin start move n a) n (has (reached start move (suc n)) a)
 
--- "the number of steps in a shortest chain, 0 for the defining area and never above 31, or 'no access'"
+-- "the number of steps in a shortest chain, 0 for the defining area and never above 31", or "no access"
 unfoldable pub answer : Lending → ℕ → Answer
 answer l a = answerWithin (l .definedIn) (step l) longest a
 
--- "An area has access to an object if it defines it or a chain of steps leads to it from the defining area."
+-- "An area has access to an object if it defines it or a chain of steps leads to it from the defining area": the claim
+-- AccessIsChain. Access is where the answer is a number of steps: the claim AccessIsSteps. It is defined apart from the
+-- answer, which computes the areas that are reached anew for each number of steps.
 unfoldable pub access : Lending → ℕ → Bool
 access l a = has (reached (l .definedIn) (step l) longest) a
 
@@ -59,14 +62,18 @@ abbrev pub unreached : ℕ
 unreached = 255
 
 -- the number that stands for an answer
-abbrev pub number : Answer → ℕ
-number (Steps n) = n
-number NoAccess = unreached
+abbrev pub answerNumber : Answer → ℕ
+answerNumber (Steps n) = n
+answerNumber NoAccess = unreached
 
 -- the numbers of all 32 areas, up to n steps
 unfoldable pub countsWithin : (ℕ → Bool) → (ℕ → ℕ → Bool) → ℕ → List ℕ
-countsWithin start move n = tabulate (limit area) (λ a. number (answerWithin start move n a))
+countsWithin start move n = tabulate (limit area) (λ a. answerNumber (answerWithin start move n a))
 
 -- the numbers of all 32 areas
 unfoldable pub leastCounts : Lending → List ℕ
 leastCounts l = countsWithin (l .definedIn) (step l) longest
+
+-- that of one area; a number that is no area's has that of 'no access'
+abbrev pub leastCount : Lending → ℕ → ℕ
+leastCount l a = getD (leastCounts l) a unreached

@@ -1,5 +1,5 @@
--- Chains of steps, their least length, and that there is none. A chain is over any test of where it may start and any test of one step: the steps
--- of an object are one use of it.
+-- Chains of steps, their least length, and that there is none. A chain is over any test of where it may start and any
+-- test of one step: the steps of an object are one use of it.
 use Prim.Native.Nat.{ℕ, suc, _≤_, _<_}
 use mathlib.Core.Bool.{Bool}
 use lib.Dec.{T}
@@ -20,6 +20,7 @@ pub record Shortest (start : ℕ → Bool) (move : ℕ → ℕ → Bool) (a n : 
 abbrev pub NoChain : (ℕ → Bool) → (ℕ → ℕ → Bool) → ℕ → Type 0
 NoChain start move a = (n : ℕ) → Chain start move n a → ⊥
 
--- "a chain of steps leads to it from the defining area": a chain of n steps of the object. In no step it is the defining area itself.
+-- "a chain of steps leads to it from the defining area": a chain of n steps of the object. In no step it is the
+-- defining area itself.
 abbrev pub ObjectChain : Lending → ℕ → ℕ → Type 0
 ObjectChain l n a = Chain (l .definedIn) (step l) n a

@@ -15,21 +15,23 @@ pub record Lending : Type 0 where
   -- (inner, outer) is a structure pair
   pub within : ℕ → ℕ → Bool
 
--- "An object moves one step from s to r in two cases. Export: the object is exported by s and (s, r) is a structure pair. Import: it is imported
--- by r and (r, s) is a structure pair." Cycles are allowed, an area in itself too, and the area that is left or reached may have no entry of its own
--- (the mailbox of 001, definition 4.15): nothing here asks for one.
+-- "An object moves one step from s to r in two cases. Export: the object is exported by s and (s, r) is a structure
+-- pair. Import: it is imported by r and (r, s) is a structure pair." Cycles are allowed, an area in itself too, and the
+-- area that is left or reached may have no entry of its own (the mailbox of 001, definition 4.15): nothing here asks
+-- for one.
 unfoldable pub step : Lending → ℕ → ℕ → Bool
 step l s r = (l .exportedBy s && l .within s r) || (l .importedBy r && l .within r s)
 
 -- what four relations say of object o
 abbrev pub lendingOf : (definition structure import export : Pairs) → ℕ → Lending
 lendingOf definition structure import export o =
-    record { definedIn = pair definition o; importedBy = pair import o; exportedBy = pair export o; within = pair structure }
+    record {
+      definedIn = pair definition o;
+      importedBy = pair import o;
+      exportedBy = pair export o;
+      within = pair structure;
+    }
 
 -- what a state says of object o
 abbrev pub lending : State → ℕ → Lending
 lending s o = lendingOf (s .definitions) (s .structure) (s .imports) (s .exports) o
-
--- one step from s to r, where the structure is at hand in both directions: `transposed` has the pair (s, r) where (r, s) is a structure pair
-unfoldable pub moveBy : (structure transposed : Pairs) → (importedBy exportedBy : ℕ → Bool) → ℕ → ℕ → Bool
-moveBy structure transposed importedBy exportedBy s r = (exportedBy s && pair structure s r) || (importedBy r && pair transposed s r)

@@ -1,12 +1,19 @@
--- What the functions of the search promise, in terms of the arrays that they work on.
+-- Not needed to believe a claim. What the functions of the search promise, in terms of the arrays that they work on.
 use Prim.Native.Nat.{ℕ}
 use mathlib.Core.Bool.{Bool, true, _&&_, _||_, cond}
+use Rattle.state.specs.Cells.{Pairs, pair}
 use mathlib.Core.List.{List}
 use lib.Dec.{eqb}
 use lib.ListN.{getD}
 use Rattle.state.specs.Tabulate.{tabulate}
 use Rattle.state.specs.Site.{area, limit}
 use Rattle.access.specs.Answer.{Areas, has, someArea, unreached}
+
+-- one step from s to r, where the structure is at hand in both directions: `transposed` has the pair (s, r) where the
+-- structure has (r, s)
+unfoldable pub moveBy : (structure transposed : Pairs) → (importedBy exportedBy : ℕ → Bool) → ℕ → ℕ → Bool
+moveBy structure transposed importedBy exportedBy s r =
+    (exportedBy s && pair structure s r) || (importedBy r && pair transposed s r)
 
 -- the areas one step from an area of the set
 unfoldable pub nextTo : (ℕ → ℕ → Bool) → Areas → Areas

@@ -1,10 +1,10 @@
 // Access to an object: the least number of steps from the area that defines it.
 ghost use mathlib.Core.Path.{_≡_};
 ghost use Prim.Native.Nat.{_<_};
-ghost use Rattle.access.specs.Lending.{lendingOf, moveBy};
-ghost use Rattle.access.specs.Answer.{longest, has, answer, countsWithin};
+ghost use Rattle.access.specs.Lending.{lendingOf};
+ghost use Rattle.access.specs.Answer.{longest, has, answer, answerNumber, countsWithin, leastCount};
 ghost use Rattle.access.specs.Claims.{Meaning};
-ghost use Rattle.access.specs.Rounds.{nextTo, joinedWith, uncounted, countedAs, anyArea};
+ghost use Rattle.access.specs.Rounds.{moveBy, nextTo, joinedWith, uncounted, countedAs, anyArea};
 use state::State;
 
 // The number of steps in a shortest chain, or no access.
@@ -19,7 +19,8 @@ const LONGEST: u8 = 31;
 // The count of an area that is not reached.
 const UNREACHED: u8 = 255;
 
-// The areas, and those that the object can move to in one step from area s, which exports it or not. The rows of s are read where they lie.
+// The areas, and those that the object can move to in one step from area s, which exports it or not. The rows of s are
+// read where they lie.
 fn joined<'a>(
     areas: [bool; 32],
     structure: &'a [bool; 1024],
@@ -29,7 +30,8 @@ fn joined<'a>(
     s: usize,
 ) -> [bool; 32]
     requires { ⌜ s < 32 ⌝ }
-    ensures { λ r. ⌜ r ≡ joinedWith (moveBy (now (structure .entry)) (now (transposed .entry)) (has imported) (λ _. exported) s) areas ⌝ }
+    ensures { λ r. ⌜ r ≡ joinedWith (moveBy (now (structure .entry)) (now (transposed .entry)) (has imported)
+        (λ _. exported) s) areas ⌝ }
 {
     let from = s * 32;
     let mut out = areas;
@@ -47,7 +49,8 @@ fn next<'a>(
     imported: [bool; 32],
     exported: [bool; 32],
 ) -> [bool; 32]
-    ensures { λ r. ⌜ r ≡ nextTo (moveBy (now (structure .entry)) (now (transposed .entry)) (has imported) (has exported)) layer ⌝ }
+    ensures { λ r. ⌜ r ≡ nextTo (moveBy (now (structure .entry)) (now (transposed .entry)) (has imported)
+        (has exported)) layer ⌝ }
 {
     let mut out = [false; 32];
     for s in 0..32usize {
@@ -94,8 +97,9 @@ fn counted(counts: [u8; 32], areas: [bool; 32], n: u8) -> [u8; 32]
     out
 }
 
-// For each area the least number of steps from the area that defines an object, or 255 if it lacks access. The object is given by its rows: the areas
-// that define, import and export it; and the structure with its transpose, which `rows::transposed` makes once for many objects.
+// For each area the least number of steps from the area that defines an object, or 255 if it lacks access. The object
+// is given by its rows: the areas that define, import and export it; and the structure with its transpose, which
+// `rows::transposed` makes once for many objects.
 pub fn least_counts<'a>(
     defined: [bool; 32],
     structure: &'a [bool; 1024],
@@ -103,7 +107,8 @@ pub fn least_counts<'a>(
     imported: [bool; 32],
     exported: [bool; 32],
 ) -> [u8; 32]
-    ensures { λ r. ⌜ r ≡ countsWithin (has defined) (moveBy (now (structure .entry)) (now (transposed .entry)) (has imported) (has exported)) longest ⌝ }
+    ensures { λ r. ⌜ r ≡ countsWithin (has defined) (moveBy (now (structure .entry)) (now (transposed .entry))
+        (has imported) (has exported)) longest ⌝ }
 {
     let mut layer = defined;
     let mut out = counted([UNREACHED; 32], layer, 0);
@@ -120,7 +125,7 @@ pub fn least_counts<'a>(
     out
 }
 
-// The answer for one area and object.
+// The answer for one area and object. Its number is the area's count in `least_counts`; 255, no access, past the areas.
 pub fn steps<'a>(
     definitions: &'a [bool],
     structure: &'a [bool; 1024],
@@ -129,8 +134,15 @@ pub fn steps<'a>(
     area: u8,
     object: u8,
 ) -> Answer
-    ensures equation { λ r. ⌜ r ≡ answer (lendingOf (now (definitions .entry)) (now (structure .entry)) (now (imports .entry)) (now (exports .entry)) object) area ⌝ }
-    ensures meaning { λ r. ⌜ Meaning (lendingOf (now (definitions .entry)) (now (structure .entry)) (now (imports .entry)) (now (exports .entry)) object) area r ⌝ }
+    ensures equation { λ r. ⌜ r ≡ answer
+        (lendingOf (now (definitions .entry)) (now (structure .entry)) (now (imports .entry)) (now (exports .entry))
+        object) area ⌝ }
+    ensures meaning { λ r. ⌜ Meaning
+        (lendingOf (now (definitions .entry)) (now (structure .entry)) (now (imports .entry)) (now (exports .entry))
+        object) area r ⌝ }
+    ensures number { λ r. ⌜ answerNumber r ≡ leastCount
+        (lendingOf (now (definitions .entry)) (now (structure .entry)) (now (imports .entry)) (now (exports .entry))
+        object) area ⌝ }
 {
     if State::AREAS <= area {
         return Answer::NoAccess;

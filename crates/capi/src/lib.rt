@@ -1,10 +1,12 @@
-// The C interface, which include/panelrights.h declares: numbers and byte slices. Each function takes a record apart and calls one function of a crate below; no rule stands here.
+// The C interface, which include/panelrights.h declares: numbers and byte slices. Each function takes a record apart
+// and calls one function of a crate below; no rule stands here.
 ghost use mathlib.Core.Path.{_≡_};
 ghost use Rattle.records.specs.Record.{recordSize, numberFor};
 ghost use Rattle.instructions.specs.Instructions.{fourBytes};
 ghost use Rattle.marks.specs.Marks.{lowest};
-ghost use Rattle.access.specs.Answer.{number};
-ghost use Rattle.interface.specs.Interface.{foundingBuffer, stepNumber, stepBuffer, answerOf, accessNumber, fileNumber, fileBuffer, labelNumber};
+ghost use Rattle.access.specs.Answer.{answerNumber};
+ghost use Rattle.interface.specs.Interface.{foundingBuffer, stepNumber, stepBuffer, answerOf, accessNumber, fileNumber};
+ghost use Rattle.interface.specs.Interface.{fileBuffer, labelNumber};
 use access::Answer;
 use machine::Reply;
 use state::State;
@@ -26,7 +28,8 @@ pub extern "C" fn panelrights_founding(state: &mut [u8]) -> u8
     record_writer::write(State::founding(), state)
 }
 
-// Obeys one instruction: 0 and the state after it in place, or the refusal and no byte changed. Bytes that are no record are the state of nothing, which is not sound: 12.
+// Obeys one instruction: 0 and the state after it in place, or the refusal and no byte changed. Bytes that are no
+// record are the state of nothing, which is not sound: 12.
 #[no_mangle]
 pub extern "C" fn panelrights_step(state: &mut [u8], code: u8, activator: u8, a: u8, b: u8) -> u8
     ensures number { λ r. ⌜ r ≡ stepNumber (now (state .entry)) (fourBytes code activator a b) ⌝ }
@@ -43,7 +46,7 @@ pub extern "C" fn panelrights_step(state: &mut [u8], code: u8, activator: u8, a:
 
 // The number that stands for an answer: the steps, or 255 for no access.
 fn number_of(answer: Answer) -> u16
-    ensures { λ r. ⌜ r ≡ number answer ⌝ }
+    ensures { λ r. ⌜ r ≡ answerNumber answer ⌝ }
 {
     match answer {
         Answer::Steps(n) => n as u16,
@@ -63,13 +66,14 @@ fn answer_of(reply: Reply) -> u16
 
 // In how many steps has the area access to the object? 255 for no access, 256 + n for refusal n.
 #[no_mangle]
-pub extern "C" fn panelrights_access(state: &[u8], area: u8, object: u8) -> u16
+pub extern "C" fn panelrights_access(state: &[u8], area: u32, object: u32) -> u16
     ensures { λ r. ⌜ r ≡ accessNumber (now (state .entry)) area object ⌝ }
 {
     answer_of(machine::ask(record_reader::state_of(state), area, object))
 }
 
-// Reads a site file: 0 and its state, or 21 to 29 and the founding state; 31 and no byte written, if the state's buffer has another length than a record.
+// Reads a site file: 0 and its state, or 21 to 29 and the founding state; 31 and no byte written, if the state's buffer
+// has another length than a record.
 #[no_mangle]
 pub extern "C" fn panelrights_read_file<'a>(file: &'a [u8], state: &'a mut [u8]) -> u8
     ensures number { λ r. ⌜ r ≡ fileNumber (now (file .entry)) (now (state .entry)) ⌝ }
@@ -86,7 +90,7 @@ pub extern "C" fn panelrights_read_file<'a>(file: &'a [u8], state: &'a mut [u8])
 
 // Where the text of the area's label stands in the file: offset * 65536 + length, 0 if there is none.
 #[no_mangle]
-pub extern "C" fn panelrights_label(file: &[u8], area: u8) -> u32
+pub extern "C" fn panelrights_label(file: &[u8], area: u32) -> u32
     ensures { λ r. ⌜ r ≡ labelNumber (now (file .entry)) area ⌝ }
 {
     let place = label_finder::label_place(file, area);

@@ -78,7 +78,7 @@ fn print(text: &[u8]) {
 }
 
 // How many bytes the label of the area has in the file, which ends after `size` bytes, and the bytes.
-fn tell(name: &[u8], size: usize, area: u8)
+fn tell(name: &[u8], size: usize, area: u32)
     requires { ⌜ size ≤ 62 ⌝ }
 {
     let file = FILE;
@@ -96,5 +96,6 @@ pub fn run() {
     tell(b"the label of area 0", 62, 0);
     tell(b"of area 1, which has none", 62, 1);
     tell(b"of area 255", 62, 255);
+    tell(b"of area 256", 62, 256);
     tell(b"of area 0, in the same file without its last byte", 61, 0);
 }

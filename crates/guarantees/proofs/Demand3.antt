@@ -5,7 +5,7 @@ use Prim.Native.Nat.{ℕ}
 use mathlib.Core.Path.{_≡_, refl, sym, subst, _∙_}
 use mathlib.Core.Logic.{_⊎_, inl, inr}
 use mathlib.Core.Bool.{Bool, true, false, cond, not}
-use mathlib.Core.List.{List, [], _∷_}
+use mathlib.Core.List.{List, [], _∷_, _++_}
 use native.Mathlib.Decide.{ℕ-discrete}
 use lib.Dec.{T, eqb}
 use borrow.Author.Tests.{eq-eqb, ne-eqb}
@@ -14,14 +14,18 @@ use Rattle.state.specs.declared.State.{State}
 use Rattle.state.proofs.Bools.{fails, so}
 use Rattle.state.proofs.Laws.{list-keeps-pairs, related-else, related-other-relation}
 use Rattle.soundness.specs.Sound.{Sound}
-use Rattle.instructions.specs.Instructions.{Bytes, Target, theArea, pairOf, Picked, unknown, instruction, instructionOf}
+use Rattle.instructions.specs.Instructions.{Bytes, Target, theArea, pairOf}
+use Rattle.instructions.specs.Decode.{decodeOf, misfits}
+use Rattle.instructions.proofs.Laws.{fits-exactly}
 use Rattle.successors.specs.Successor.{withoutOwner, changed, successor, successorOf}
 use Rattle.state.specs.Checks.{firstMet}
-use Rattle.refusals.specs.Refusals.{decoding, refusals}
-use Rattle.machine.specs.Step.{refusalOf, stepOf, run}
+use Rattle.refusals.specs.Refusals.{checksOf, refusals}
+use Rattle.machine.specs.Step.{stepRefusal, stepOf, run}
 use Rattle.guarantees.specs.Demand3
-use Rattle.guarantees.specs.Demand3.{Silent, silent-end, silent-next, Guarantee}
+use Rattle.guarantees.specs.Demand3.{Silent, silent-end, silent-next, LendingGuarantee}
 use Rattle.instructions.specs.declared.Instruction.{Instruction}
+use Rattle.instructions.specs.declared.Decoded.{Decoded}
+use Rattle.instructions.specs.declared.Decoded.the-variants.{Fits, NoCode, OutOfRange}
 use Rattle.instructions.specs.declared.Instruction.the-variants.{ListArea, UnlistArea, AddOwner, RemoveOwner, AddStructure, RemoveStructure, Define, RemoveDefinition, AddImport, RemoveImport, AddExport, RemoveExport}
 use Rattle.state.proofs.Checks.{numbered, Passed, all-passed}
 use Rattle.guarantees.proofs.Parts.{different}
@@ -33,43 +37,45 @@ module _ (s : State) (bytes : Bytes) where
   abbrev gives : Instruction → State
   gives x = successor s x (bytes .activator) (bytes .a) (bytes .b)
 
-  abbrev Taken : State → Type 0
+  abbrev pub Taken : State → Type 0
   Taken t = (x : Instruction) × Accepted s x (bytes .activator) (bytes .a) (bytes .b) × (t ≡ gives x)
 
-  picked : (p : Picked) → Passed (decoding s bytes p) → Taken (successorOf s bytes p)
-  picked unknown q = absurd (fails (q .0) tt)
-  picked (instruction x) q = (
+  picked : (d : Decoded) → decodeOf bytes ≡ d → Passed (misfits d ++ checksOf s bytes d) → Taken (successorOf s bytes d)
+  picked NoCode e q = absurd (fails (q .0) tt)
+  picked OutOfRange e q = absurd (fails (q .1 .0) tt)
+  picked (Fits x) e q = let r = q .1 .1 in (
     x,
     record {
-      in-range = q .0;
-      known = q .1 .0;
-      named = q .1 .1 .0;
-      owned = q .1 .1 .1 .0;
-      new = q .1 .1 .1 .1 .0;
-      there = q .1 .1 .1 .1 .1 .0;
-      not-last = q .1 .1 .1 .1 .1 .1 .0;
-      not-used = q .1 .1 .1 .1 .1 .1 .1 .0;
-      reached = q .1 .1 .1 .1 .1 .1 .1 .1 .0;
-      valid = q .1 .1 .1 .1 .1 .1 .1 .1 .1 .0;
+      in-range = fits-exactly bytes x .0 e .in-range;
+      known = r .0;
+      named = r .1 .0;
+      owned = r .1 .1 .0;
+      new = r .1 .1 .1 .0;
+      there = r .1 .1 .1 .1 .0;
+      not-last = r .1 .1 .1 .1 .1 .0;
+      not-used = r .1 .1 .1 .1 .1 .1 .0;
+      reached = r .1 .1 .1 .1 .1 .1 .1 .0;
+      valid = r .1 .1 .1 .1 .1 .1 .1 .1 .0;
     },
     refl,
   )
 
-  all-numbered : (p : Picked) → T (numbered (decoding s bytes p))
-  all-numbered unknown = tt
-  all-numbered (instruction x) = tt
+  all-numbered : (d : Decoded) → T (numbered (misfits d ++ checksOf s bytes d))
+  all-numbered (Fits x) = tt
+  all-numbered NoCode = tt
+  all-numbered OutOfRange = tt
 
-  accepted : firstMet (refusals s bytes) ≡ 0 → Taken (successorOf s bytes (instructionOf (bytes .code)))
-  accepted e = picked (instructionOf (bytes .code)) (all-passed (refusals s bytes) (all-numbered (instructionOf (bytes .code))) e .1)
+  accepted : firstMet (refusals s bytes) ≡ 0 → Taken (successorOf s bytes (decodeOf bytes))
+  accepted e = picked (decodeOf bytes) refl (all-passed (refusals s bytes) (all-numbered (decodeOf bytes)) e .1)
 
   pub stepped : (stepOf s bytes .state ≡ s) ⊎ Taken (stepOf s bytes .state)
-  unfolding stepOf refusalOf
+  unfolding stepOf stepRefusal
   stepped = go (ℕ-discrete (firstMet (refusals s bytes)) 0)
     where
       n : ℕ
       n = firstMet (refusals s bytes)
 
-      go : Dec (n ≡ 0) → (cond (eqb n 0) (successorOf s bytes (instructionOf (bytes .code))) s ≡ s) ⊎ Taken (cond (eqb n 0) (successorOf s bytes (instructionOf (bytes .code))) s)
+      go : Dec (n ≡ 0) → (cond (eqb n 0) (successorOf s bytes (decodeOf bytes)) s ≡ s) ⊎ Taken (cond (eqb n 0) (successorOf s bytes (decodeOf bytes)) s)
       go (yes e) = rw (eq-eqb n 0 e) (inr (accepted e))
       go (no f) = inl (rw (ne-eqb n 0 f))
 
@@ -82,7 +88,7 @@ step-sound s bytes h = go (stepped s bytes)
 
 -- ---- what a step leaves to an area
 -- the area's owner, definition, import and export pairs are the same
-record Same (s t : State) (p : ℕ) : Type 0 where
+pub record Same (s t : State) (p : ℕ) : Type 0 where
   pairs : (r : Relation) → (r ≡ structure → ⊥) → (i : ℕ) → related t r i p ≡ related s r i p
 
 same-pair : (s : State) (q : Relation) (i a : ℕ) (v : Bool) (p : ℕ) → (p ≡ a → ⊥) → Same s (withPair s q i a v) p
@@ -139,7 +145,7 @@ module _ (s : State) (u a b p : ℕ) (here : T (listed s area p)) (silent : T (o
   taken-same AddExport y = his-area (pairOf export) true (y .owned)
   taken-same RemoveExport y = his-area (pairOf export) false (y .owned)
 
-step-same : (s : State) (bytes : Bytes) (p : ℕ) → T (listed s area p) → (T (owns s (bytes .activator) p) → ⊥) → Same s (stepOf s bytes .state) p
+pub step-same : (s : State) (bytes : Bytes) (p : ℕ) → T (listed s area p) → (T (owns s (bytes .activator) p) → ⊥) → Same s (stepOf s bytes .state) p
 step-same s bytes p here silent = go (stepped s bytes)
   where
     go : (stepOf s bytes .state ≡ s) ⊎ Taken s bytes (stepOf s bytes .state) → Same s (stepOf s bytes .state) p
@@ -148,11 +154,11 @@ step-same s bytes p here silent = go (stepped s bytes)
 
 -- ---- a list
 -- an area that keeps its owners is listed still
-listed-still : (s t : State) (p : ℕ) → Sound s → Sound t → Same s t p → T (listed s area p) → T (listed t area p)
+pub listed-still : (s t : State) (p : ℕ) → Sound s → Sound t → Same s t p → T (listed s area p) → T (listed t area p)
 listed-still s t p h k same here =
     let o = h .acceptable .areas p here in k .consistent owner (o .0) p (subst T (sym (same .pairs owner (different owner structure tt) (o .0))) (o .1)) .second
 
-silent-still : (s t : State) (p : ℕ) → Same s t p → (l : List Bytes) → Silent s p l → Silent t p l
+pub silent-still : (s t : State) (p : ℕ) → Same s t p → (l : List Bytes) → Silent s p l → Silent t p l
 silent-still s t p same [] silent-end = silent-end
 silent-still s t p same (bytes ∷ rest) (silent-next quiet others) =
     silent-next (λ o. quiet (subst T (same .pairs owner (different owner structure tt) (bytes .activator)) o)) (silent-still s t p same rest others)
@@ -174,7 +180,7 @@ run-same s (bytes ∷ rest) p h here (silent-next quiet others) =
 pub demand-3 : Demand3.Demand3
 demand-3 s l h = record { sound = run-sound s l h; lending-guarantee = guarantee }
   where
-    guarantee : (p : ℕ) → T (listed s area p) → Silent s p l → Guarantee s (run s l) p
+    guarantee : (p : ℕ) → T (listed s area p) → Silent s p l → LendingGuarantee s (run s l) p
     guarantee p here silent =
         let same = run-same s l p h here silent in
         let k = run-sound s l h in

@@ -20,8 +20,8 @@ use Rattle.access.proofs.Laws.{access-is-defined}
 use Rattle.soundness.specs.Sound.{Named, DefinedOnce, Valid, Sound}
 use Rattle.soundness.specs.Tests.{isValid}
 use Rattle.soundness.proofs.Laws.{valid-decided}
-use Rattle.instructions.specs.Instructions.{theArea, row}
-use Rattle.instructions.specs.Decode.{outOfRange}
+use Rattle.instructions.specs.Instructions.{theArea, rule}
+use Rattle.instructions.specs.Decode.{fits, inRange}
 use Rattle.successors.specs.Successor.{withoutOwner, successor}
 use Rattle.refusals.specs.Refusals.{missing, entitled, present, absent, soleOwner, onlyArea, isLast, otherOwner, inUse, isEntry, bearsAccess}
 use Rattle.instructions.specs.declared.Instruction.{Instruction}
@@ -29,7 +29,7 @@ use Rattle.instructions.specs.declared.Instruction.the-variants.{ListArea, Unli
 use Rattle.guarantees.proofs.Parts.{different, different-kind, consistent-add, consistent-remove, consistent-list, Unnamed, consistent-unlist, consistent-without, once-same, acceptable-pair, acceptable-more, users-without, areas-without, valid-same, valid-add}
 
 -- ---- truth values of a check that is not met
-both-so : (p q : Bool) → not (p && q) ≡ false → T p × T q
+pub both-so : (p q : Bool) → not (p && q) ≡ false → T p × T q
 both-so p q e = let t = so (p && q) e in (and-left p q t, and-right p q t)
 
 none-of-six : (p q r t v w : Bool) → p || q || r || t || v || w ≡ false
@@ -44,16 +44,16 @@ none-of-six p q r t v w e =
 
 -- the operands are in range, and no check is met
 pub record Accepted (s : State) (x : Instruction) (u a b : ℕ) : Type 0 where
-  pub in-range : outOfRange (row x .operand) u a b ≡ false
+  pub in-range : T (inRange (fits (rule x .operand) b) u a)
   pub known : not (listed s user u) ≡ false
-  pub named : missing s (row x .lookup) a b ≡ false
-  pub owned : not (entitled s (row x .mustOwn) u a b) ≡ false
-  pub new : row x .adds && present s (row x .target) a b ≡ false
-  pub there : not (row x .adds) && absent s (row x .target) a b ≡ false
-  pub not-last : not (row x .adds) && isLast s (row x .target) a b ≡ false
-  pub not-used : not (row x .adds) && inUse s (row x .target) u a ≡ false
-  pub reached : row x .adds && isEntry (row x .target) && not (access (lending (successor s x u a b) b) a) ≡ false
-  pub valid : not (row x .adds) && bearsAccess (row x .target) && not (isValid (successor s x u a b)) ≡ false
+  pub named : missing s (rule x .lookup) a b ≡ false
+  pub owned : not (entitled s (rule x .mustOwn) u a b) ≡ false
+  pub new : rule x .adds && present s (rule x .target) a b ≡ false
+  pub there : not (rule x .adds) && absent s (rule x .target) a b ≡ false
+  pub not-last : not (rule x .adds) && isLast s (rule x .target) a b ≡ false
+  pub not-used : not (rule x .adds) && inUse s (rule x .target) u a ≡ false
+  pub reached : rule x .adds && isEntry (rule x .target) && not (access (lending (successor s x u a b) b) a) ≡ false
+  pub valid : not (rule x .adds) && bearsAccess (rule x .target) && not (isValid (successor s x u a b)) ≡ false
 
 module _ (s : State) (h : Sound s) where
   -- a number that is now listed is the new one, or was listed
@@ -320,8 +320,8 @@ module _ (s : State) (h : Sound s) where
       pair-remove r no-owner no-definition i j (valid-decided (withPair s r i j false) .0 (so (isValid (withPair s r i j false)) valid))
 
   -- ---- the twelve
-  in-range : (o p q : Bool) → not (o && p && q) ≡ false → T p × T q
-  in-range o p q e = let t = so (o && p && q) e in (and-right o p (and-left (o && p) q t), and-right (o && p) q t)
+  in-range : (o p q : Bool) → T (o && p && q) → T p × T q
+  in-range o p q t = (and-right o p (and-left (o && p) q t), and-right (o && p) q t)
 
   below : (n m : ℕ) → T (ltb n m) → n < m
   below n m t = ltb-true n m (is-true (ltb n m) t)

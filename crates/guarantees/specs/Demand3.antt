@@ -19,12 +19,14 @@ use Rattle.machine.specs.Step.{run}
 -- users in its owner pairs there; an instruction's activator is its second byte, in a refused one too."
 pub data Silent (s : State) (p : ℕ) : List Bytes → Type 0 where
   silent-end : Silent s p []
-  silent-next : {bytes : Bytes} {rest : List Bytes} → (T (owns s (bytes .activator) p) → ⊥) → Silent s p rest → Silent s p (bytes ∷ rest)
+  silent-next : {bytes : Bytes} {rest : List Bytes} → (T (owns s (bytes .activator) p) → ⊥) → Silent s p rest
+      → Silent s p (bytes ∷ rest)
 
--- What area p, listed in s, is promised of the state t after the list. "The area's owner, definition, import and export
--- pairs after the list are the same sets as at the start. An object can be traced to an area if, in the state after the
--- list, the area has access to it."
-pub record Guarantee (s t : State) (p : ℕ) : Type 0 where
+-- "What demand 3 says of an area whose owners at the start activate nothing in the list is called the lending
+-- guarantee": for area p, from the state s to the state t after the list. "The area's owner, definition, import and
+-- export pairs after the list are the same sets as at the start. An object can be traced to an area if, in the state
+-- after the list, the area has access to it."
+pub record LendingGuarantee (s t : State) (p : ℕ) : Type 0 where
   pub still-listed : T (listed t area p)
   pub owners : (u : ℕ) → owns t u p ≡ owns s u p
   pub objects : (o : ℕ) → defines t o p ≡ defines s o p
@@ -36,7 +38,7 @@ pub record Guarantee (s t : State) (p : ℕ) : Type 0 where
 -- what is claimed of the state t after a list l from s
 pub record Upheld (s : State) (l : List Bytes) (t : State) : Type 0 where
   pub sound : Sound t
-  pub lending-guarantee : (p : ℕ) → T (listed s area p) → Silent s p l → Guarantee s t p
+  pub lending-guarantee : (p : ℕ) → T (listed s area p) → Silent s p l → LendingGuarantee s t p
 
 abbrev pub Demand3 : Type 0
 Demand3 = (s : State) (l : List Bytes) → Sound s → Upheld s l (run s l)

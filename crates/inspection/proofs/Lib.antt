@@ -1,2 +1,2 @@
--- Rows joins the tests of `soundness` to what the functions promise each other.
-mod Rows
+-- Parts joins the tests of `soundness` to what the functions promise each other.
+mod Parts

@@ -1,3 +1,4 @@
--- What the public functions promise are definitions of `soundness` (Sound, Tests). Rows has what this crate's own
--- functions ask and promise each other.
-pub mod Rows
+-- The public functions promise definitions of `soundness`: `is_sound` promises `isSound` and `Sound`, `is_well_formed`
+-- promises `isWellFormed`, `has_member` `someListed`. Parts has what this crate's own functions ask and promise each
+-- other.
+pub mod Parts

@@ -7,8 +7,11 @@ ghost use lib.ListN.{length};
 ghost use Rattle.state.specs.Below.{eachBelow, countBelow};
 ghost use Rattle.access.specs.Answer.{has};
 ghost use Rattle.soundness.specs.Sound.{Sound};
-ghost use Rattle.soundness.specs.Tests.{named, allOwn, allDefined, someListed, consistentOf, isConsistent, acceptableOf, isAcceptable, isWellFormed, isSound};
-ghost use Rattle.inspection.specs.Rows.{cellNamed, RowsFit};
+ghost use mathlib.Core.Bool.{_&&_};
+ghost use Rattle.state.specs.Site.{recordOf};
+ghost use Rattle.soundness.specs.Tests.{named, allOwn, allOwned, allDefined, someListed};
+ghost use Rattle.soundness.specs.Tests.{isConsistent, isAcceptable, isWellFormed, isSound};
+ghost use Rattle.inspection.specs.Parts.{cellNamed, RowsFit};
 use state::State;
 
 // Does each pair of the row that starts at `from` name an area of the set, and is there none unless the row's own
@@ -99,8 +102,10 @@ fn are_consistent<'a>(
     imports: &'a [bool],
     exports: &'a [bool],
 ) -> bool
-    requires { ⌜ RowsFit (now users) areas (now objects) (now owners) (now definitions) (now structure) (now imports) (now exports) ⌝ }
-    ensures { λ r. ⌜ r ≡ consistentOf (now (users .entry)) areas (now (objects .entry)) (now (owners .entry)) (now (definitions .entry)) (now (structure .entry)) (now (imports .entry)) (now (exports .entry)) ⌝ }
+    requires { ⌜ RowsFit (now users) areas (now objects) (now owners) (now definitions) (now structure)
+        (now imports) (now exports) ⌝ }
+    ensures { λ r. ⌜ r ≡ isConsistent (recordOf (now (users .entry)) areas (now (objects .entry)) (now (owners .entry))
+        (now (definitions .entry)) (now (structure .entry)) (now (imports .entry)) (now (exports .entry))) ⌝ }
 {
     let inner = areas;
     all_named(owners, users, areas)
@@ -137,7 +142,8 @@ fn are_acceptable<'a>(
     definitions: &'a [bool],
 ) -> bool
     requires { ⌜ length (now owners) ≡ 1024 ⌝ }
-    ensures { λ r. ⌜ r ≡ acceptableOf users areas objects (now (owners .entry)) (now (definitions .entry)) ⌝ }
+    ensures { λ r. ⌜ r ≡ (allOwn users (now (owners .entry)) && allOwned areas (now (owners .entry))
+        && allDefined objects (now (definitions .entry))) ⌝ }
 {
     let turned = rows::transposed(owners);
     all_own(users, owners) & all_own(areas, &turned) & all_defined(objects, definitions)

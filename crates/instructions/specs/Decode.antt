@@ -1,14 +1,19 @@
--- The decoder (document 01, 'The twelve instructions' and refusals 1 and 2): which instruction four bytes fit, if any. No list is looked at.
+-- The decoder (document 01, 'The twelve instructions' and refusals 1 and 2): which instruction four bytes fit, if any.
+-- No list is looked at.
 use Prim.Native.Nat.{ℕ}
-use mathlib.Core.Bool.{Bool, _&&_, not, cond}
+use mathlib.Core.Bool.{Bool, true, false, _&&_, cond}
+use mathlib.Core.List.{List, [], _∷_}
 use lib.Dec.{eqb, ltb}
+use Rattle.state.specs.Checks.{Check, _when_}
 use Rattle.state.specs.Site.{user, area, limit}
-use Rattle.instructions.specs.Instructions.{Bytes, Operand, zeroOnly, numberOf, row, Picked, unknown, instruction, instructionOf}
+use Rattle.instructions.specs.Instructions.{Bytes, Operand, zeroOnly, numberOf, rule, Picked, unknown}
+use Rattle.instructions.specs.Instructions.{instruction}
+use Rattle.instructions.specs.Instructions.{instructionOf}
 use Rattle.instructions.specs.declared.Instruction.{Instruction}
 use Rattle.instructions.specs.declared.Decoded.{Decoded}
 use Rattle.instructions.specs.declared.Decoded.the-variants.{Fits, NoCode, OutOfRange}
 
--- Refusal 2: "a user or area above 31, an object above 63, or b not 0 for codes 1 and 2"
+-- b is what the table says: 0, or the number of a user, an area or an object
 abbrev pub fits : Operand → ℕ → Bool
 fits zeroOnly b = eqb b 0
 fits (numberOf k) b = ltb b (limit k)
@@ -17,17 +22,15 @@ fits (numberOf k) b = ltb b (limit k)
 abbrev pub inRange : (fits : Bool) → (u a : ℕ) → Bool
 inRange f u a = ltb u (limit user) && ltb a (limit area) && f
 
-abbrev pub outOfRange : Operand → (u a b : ℕ) → Bool
-outOfRange o u a b = not (inRange (fits o b) u a)
-
--- "A code from 1 to 12 picks the kind; bytes that fit no kind are refused"
+-- "a user or area above 31, an object above 63, or b not 0 for codes 1 and 2" is out of range
 abbrev pub rangedAs : Instruction → (fits : Bool) → (u a : ℕ) → Decoded
 rangedAs x f u a = cond (inRange f u a) (Fits x) OutOfRange
 
 abbrev pub decodedAs : Bytes → Picked → Decoded
 decodedAs bytes unknown = NoCode
-decodedAs bytes (instruction x) = rangedAs x (fits (row x .operand) (bytes .b)) (bytes .activator) (bytes .a)
+decodedAs bytes (instruction x) = rangedAs x (fits (rule x .operand) (bytes .b)) (bytes .activator) (bytes .a)
 
+-- "A code from 1 to 12 picks the kind; bytes that fit no kind are refused"
 abbrev pub decodeOf : Bytes → Decoded
 decodeOf bytes = decodedAs bytes (instructionOf (bytes .code))
 
@@ -36,3 +39,17 @@ abbrev pub decodedNumber : Decoded → ℕ
 decodedNumber (Fits x) = 0
 decodedNumber NoCode = 1
 decodedNumber OutOfRange = 2
+
+-- Refusals 1 and 2 as rows of the table of refusals.
+abbrev pub hasNoCode : Decoded → Bool
+hasNoCode (Fits x) = false
+hasNoCode NoCode = true
+hasNoCode OutOfRange = false
+
+abbrev pub isOutOfRange : Decoded → Bool
+isOutOfRange (Fits x) = false
+isOutOfRange NoCode = false
+isOutOfRange OutOfRange = true
+
+abbrev pub misfits : Decoded → List Check
+misfits decoded = (1 when hasNoCode decoded) ∷ (2 when isOutOfRange decoded) ∷ []

@@ -1,7 +1,8 @@
 // What four bytes mean: the instruction that they fit.
 ghost use mathlib.Core.Path.{_≡_};
 ghost use Rattle.instructions.specs.Instructions.{fourBytes};
-ghost use Rattle.instructions.specs.Decode.{rangedAs, decodeOf, decodedNumber};
+ghost use Rattle.state.specs.Checks.{firstMet};
+ghost use Rattle.instructions.specs.Decode.{rangedAs, decodeOf, decodedNumber, misfits};
 use state::State;
 
 // The twelve instructions.
@@ -40,7 +41,8 @@ fn in_range(x: Instruction, fits: bool, activator: u8, a: u8) -> Decoded
 
 // What four bytes fit. No list is looked at.
 pub fn decode(code: u8, activator: u8, a: u8, b: u8) -> Decoded
-    ensures { λ r. ⌜ r ≡ decodeOf (fourBytes code activator a b) ⌝ }
+    ensures equation { λ r. ⌜ r ≡ decodeOf (fourBytes code activator a b) ⌝ }
+    ensures number { λ r. ⌜ decodedNumber r ≡ firstMet (misfits (decodeOf (fourBytes code activator a b))) ⌝ }
 {
     let user = b < State::USERS;
     let area = b < State::AREAS;

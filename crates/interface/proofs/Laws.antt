@@ -1,7 +1,7 @@
 -- The claims of specs/Claims.antt, each proved under its name.
 -- Assumes nothing.
 use Prim.Native.Nat.{ℕ, _+_, _*_, _≤_}
-use mathlib.Core.Path.{_≡_, sym, ap, subst, _∙_}
+use mathlib.Core.Path.{_≡_, refl, sym, ap, subst, _∙_}
 use mathlib.Core.Logic.{_⊎_, inl, inr}
 use mathlib.Core.Bool.{Bool, true, false, _&&_, _||_, not, cond}
 use mathlib.Core.List.{[], _∷_}
@@ -17,11 +17,10 @@ use Rattle.state.proofs.Bools.{or-left, or-right, test}
 use Rattle.state.proofs.Checks.{first-meets}
 use Rattle.state.proofs.Laws.{founding-shaped}
 use Rattle.access.specs.Lending.{Lending, lending}
-use Rattle.access.specs.Answer.{longest, answer, number}
-use Rattle.access.specs.Claims.{Right}
+use Rattle.access.specs.Answer.{answer, answerNumber}
 use Rattle.access.specs.declared.Answer.{Answer}
 use Rattle.access.specs.declared.Answer.the-variants.{Steps, NoAccess}
-use Rattle.access.proofs.Laws.{answer-is-right}
+use Rattle.access.proofs.Laws.{at-most-31}
 use Rattle.records.specs.Record.{recordSize, bytesOf, stateOf, isSized}
 use Rattle.records.proofs.Laws.{state-of-bytes, bytes-of-state, bytes-are-record, bytes-length, record-length, stored-sized, stored-other}
 use Rattle.machine.specs.Step.{stepOf, run, questionRefusals, replyOf}
@@ -31,6 +30,7 @@ use Rattle.machine.proofs.Laws.{run-none, run-more, reply-by-first}
 use Rattle.machine.proofs.Laws as machine
 use Rattle.guarantees.proofs.Demand3.{demand-3}
 use Rattle.site_file.specs.Reading.{readOf}
+use Rattle.site_file.specs.Claims.{isReadNumber}
 use Rattle.label_finder.specs.Finder.{hasLabel, textAt, textLength}
 use Rattle.site_file.proofs.Laws.{read-sound, read-numbers, read-number}
 use Rattle.label_finder.proofs.Laws.{label-small, label-behind-front, no-label-at-front}
@@ -102,22 +102,25 @@ step-length buffer x = go (ℕ-discrete (stepNumber buffer x) 0)
 -- ---- the numbers
 pub step-numbers : Claims.StepNumbers
 step-numbers buffer x =
-    let most : stepNumber buffer x ≤ 12 = rw (Steps.number-is buffer x) (machine.step-numbers (stateOf buffer) x) in
+    let most : stepNumber buffer x ≤ 12 = rw (Steps.number-is buffer x) (machine.refusal-numbers (stateOf buffer) x) in
     lt→ltb (stepNumber buffer x) 13 (omega arith)
 
 pub file-numbers : Claims.FileNumbers
 unfolding fileNumber
 file-numbers file buffer = go (isSized buffer)
   where
-    go : (v : Bool) → let n = cond v (readOf file .refusal) 31 in T (eqb n 0 || (ltb 20 n && ltb n 30) || eqb n 31)
-    go true = let n = readOf file .refusal in or-left (eqb n 0 || (ltb 20 n && ltb n 30)) (eqb n 31) (rw (read-number file) (read-numbers file))
+    go : (v : Bool) → let n = cond v (readOf file .refusal) 31 in T (isReadNumber n || eqb n 31)
+    go true =
+        let n = readOf file .refusal in
+        or-left (isReadNumber n) (eqb n 31) (rw (read-number file) (read-numbers file))
     go false = tt
 
 -- an answer is a number of steps within the limit, or 255
-answer-small : (l : Lending) (a : ℕ) (x : Answer) → Right l a x → T (isAccessNumber (number x))
-answer-small l a (Steps n) h =
-    or-right (eqb n 255 || eqb n (256 + 12) || eqb n (256 + 2) || eqb n (256 + 4)) (not (ltb longest n)) (rw (le-ltb longest n (h .short)) tt)
-answer-small l a NoAccess h = tt
+answer-small : (l : Lending) (a : ℕ) (x : Answer) → answer l a ≡ x → T (isAccessNumber (answerNumber x))
+answer-small l a (Steps n) e =
+    or-right (eqb n 255 || eqb n (256 + 12) || eqb n (256 + 2) || eqb n (256 + 4)) (not (ltb 31 n))
+    (rw (le-ltb 31 n (at-most-31 l a n e)) tt)
+answer-small l a NoAccess e = tt
 
 -- each number of the question's table, with 256
 refusal-known : ℕ → Bool
@@ -131,7 +134,7 @@ reply-known s a b = rw (reply-by-first s a b) (go (eqb n 0) (first-meets refusal
     n = firstMet (questionRefusals s a b)
 
     go : (v : Bool) → T (v || isAccessNumber (256 + n)) → T (isAccessNumber (answerOf (cond v (Answered (answer (lending s b) a)) (Refused n))))
-    go true t = answer-small (lending s b) a (answer (lending s b) a) (answer-is-right (lending s b) a)
+    go true t = answer-small (lending s b) a (answer (lending s b) a) refl
     go false t = t
 
 pub access-numbers : Claims.AccessNumbers

@@ -2,22 +2,23 @@
 use Prim.Native.Nat.{ℕ, _+_, _/_, _%_}
 use mathlib.Core.Path.{_≡_}
 use mathlib.Core.Logic.{_↔_}
-use mathlib.Core.Bool.{Bool, false, _&&_, _||_, not}
+use mathlib.Core.Bool.{Bool, false, _||_, not}
 use mathlib.Core.List.{List}
 use lib.Dec.{T, eqb, ltb}
 use lib.ListN.{length}
 use Rattle.state.specs.Site.{Shaped, founding}
 use Rattle.state.specs.declared.State.{State}
-use Rattle.access.specs.Answer.{longest}
 use Rattle.soundness.specs.Sound.{Sound}
 use Rattle.records.specs.Record.{bytesOf, isRecord, stateOf, isSized}
 use Rattle.instructions.specs.Instructions.{Bytes}
 use Rattle.machine.specs.Step.{stepOf, run, replyOf}
 use Rattle.guarantees.specs.Demand3.{Upheld}
 use Rattle.site_file.specs.Reading.{readOf}
+use Rattle.site_file.specs.Claims.{isReadNumber}
 use Rattle.site_format.specs.Format.{AreBytes}
 use Rattle.label_finder.specs.Finder.{hasLabel, textAt, textLength}
-use Rattle.interface.specs.Interface.{foundingBuffer, stepNumber, stepBuffer, answerOf, accessNumber, fileNumber, fileBuffer, labelNumber, runBuffer}
+use Rattle.interface.specs.Interface.{foundingBuffer, stepNumber, stepBuffer, answerOf, accessNumber, fileNumber}
+use Rattle.interface.specs.Interface.{fileBuffer, labelNumber, runBuffer}
 
 -- ---- with a state's record, the interface does what the machine does with the state
 pub record StepsAs (s : State) (x : Bytes) : Type 0 where
@@ -46,17 +47,21 @@ FileUnwritten = (file buffer : List ℕ) → isSized buffer ≡ false → fileBu
 
 -- ---- a program that keeps a record and calls one instruction after the other has the machine's state
 abbrev pub RunIsRun : Type 0
-RunIsRun = (buffer : List ℕ) → T (isRecord buffer) → (list : List Bytes) → runBuffer buffer list ≡ bytesOf (run (stateOf buffer) list)
+RunIsRun =
+    (buffer : List ℕ) → T (isRecord buffer) → (list : List Bytes)
+    → runBuffer buffer list ≡ bytesOf (run (stateOf buffer) list)
 
 -- so the third demand holds of its records: from any record of a sound state, for every list of instructions
 abbrev pub RecordsUpheld : Type 0
-RecordsUpheld = (buffer : List ℕ) → Sound (stateOf buffer) → (list : List Bytes) → Upheld (stateOf buffer) list (stateOf (runBuffer buffer list))
+RecordsUpheld =
+    (buffer : List ℕ) → Sound (stateOf buffer) → (list : List Bytes)
+    → Upheld (stateOf buffer) list (stateOf (runBuffer buffer list))
 
--- ---- "the refusal and no byte changed"
+-- ---- "or the refusal, 1 to 12, and no byte is changed"
 abbrev pub RefusedSameBytes : Type 0
 RefusedSameBytes = (buffer : List ℕ) (x : Bytes) → (stepNumber buffer x ≡ 0 → ⊥) → stepBuffer buffer x ≡ buffer
 
--- "A record of another length, or with a byte that no record has, is 12."
+-- "A record of another length, or with a byte other than 0 and 1, is 12."
 abbrev pub NoRecordIs12 : Type 0
 NoRecordIs12 = (buffer : List ℕ) (x : Bytes) → isRecord buffer ≡ false → stepNumber buffer x ≡ 12
 
@@ -72,11 +77,11 @@ abbrev pub StepNumbers : Type 0
 StepNumbers = (buffer : List ℕ) (x : Bytes) → T (ltb (stepNumber buffer x) 13)
 
 abbrev pub FileNumbers : Type 0
-FileNumbers = (file buffer : List ℕ) → let n = fileNumber file buffer in T (eqb n 0 || (ltb 20 n && ltb n 30) || eqb n 31)
+FileNumbers = (file buffer : List ℕ) → T (isReadNumber (fileNumber file buffer) || eqb (fileNumber file buffer) 31)
 
--- 255; 256 + n, "Refusals 12, 2, 4"; or a number of steps, "never above 31" (access, `longest`)
+-- 255; 256 + n, "Refusals 12, 2, 4"; or a number of steps, "never above 31"
 abbrev pub isAccessNumber : ℕ → Bool
-isAccessNumber n = eqb n 255 || eqb n (256 + 12) || eqb n (256 + 2) || eqb n (256 + 4) || not (ltb longest n)
+isAccessNumber n = eqb n 255 || eqb n (256 + 12) || eqb n (256 + 2) || eqb n (256 + 4) || not (ltb 31 n)
 
 abbrev pub AccessNumbers : Type 0
 AccessNumbers = (buffer : List ℕ) (a b : ℕ) → T (isAccessNumber (accessNumber buffer a b))

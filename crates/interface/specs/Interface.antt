@@ -13,7 +13,7 @@ use mathlib.Core.Bool.{cond}
 use mathlib.Core.List.{List, [], _∷_}
 use lib.Dec.{eqb}
 use Rattle.state.specs.Site.{founding}
-use Rattle.access.specs.Answer.{number}
+use Rattle.access.specs.Answer.{answerNumber}
 use Rattle.records.specs.Record.{bytesOf, isRecord, stateOf, isSized, stored}
 use Rattle.instructions.specs.Instructions.{Bytes}
 use Rattle.machine.specs.Step.{stepOf, replyOf}
@@ -23,39 +23,42 @@ use Rattle.site_file.specs.Reading.{readOf}
 use Rattle.label_finder.specs.Finder.{textAt, textLength}
 
 -- ---- panelrights_founding
--- "0, and the record of the founding state; 31 and no byte written if `state_len` is not `panelrights_state_bytes()`"
+-- "Writes the record of the founding state" .. "0; or 31 and no byte written, if state_len is not
+-- panelrights_state_bytes()."
 abbrev pub foundingBuffer : (buffer : List ℕ) → List ℕ
 foundingBuffer buffer = stored buffer founding
 
 -- ---- panelrights_step
--- "A record of another length, or with a byte that no record has, is 12."
+-- "A record of another length, or with a byte other than 0 and 1, is 12."
 unfoldable pub stepNumber : (buffer : List ℕ) → Bytes → ℕ
 stepNumber buffer x = cond (isRecord buffer) (stepOf (stateOf buffer) x .refusal) 12
 
--- "0 and the successor in place, or the refusal and no byte changed"
+-- "0, and the record is that of the state after it; or the refusal, 1 to 12, and no byte is changed."
 unfoldable pub stepBuffer : (buffer : List ℕ) → Bytes → List ℕ
 stepBuffer buffer x = cond (eqb (stepNumber buffer x) 0) (bytesOf (stepOf (stateOf buffer) x .state)) buffer
 
 -- ---- panelrights_access
--- "the number of steps; 255 for no access; 256 + n for refusal n"
+-- the number of steps, "255 for no access; 256 + n for refusal n"
 abbrev pub answerOf : Reply → ℕ
-answerOf (Answered x) = number x
+answerOf (Answered x) = answerNumber x
 answerOf (Refused n) = 256 + n
 
 unfoldable pub accessNumber : (buffer : List ℕ) (a b : ℕ) → ℕ
 accessNumber buffer a b = answerOf (cond (isRecord buffer) (replyOf (stateOf buffer) a b) (Refused 12))
 
 -- ---- panelrights_read_file
--- "31 and no byte written for a state buffer of the wrong length", else the file's number
+-- "31 and no byte written, whatever the file has, if state_len is not panelrights_state_bytes()", else the file's
+-- number
 unfoldable pub fileNumber : (file buffer : List ℕ) → ℕ
 fileNumber file buffer = cond (isSized buffer) (readOf file .refusal) 31
 
--- "0 and the state, or 21 to 29 and the founding state": `readOf` has the state for both
+-- "0, and the record is that of the file's state; or the refusal, 21 to 29, and the record is that of the founding
+-- state": `readOf` has the state for both
 abbrev pub fileBuffer : (file buffer : List ℕ) → List ℕ
 fileBuffer file buffer = stored buffer (readOf file .state)
 
 -- ---- panelrights_label
--- "offset * 65536 + length of the label's text in the file; 0 if there is none"
+-- "Where the text of the area's label stands in the file: offset * 65536 + length. 0 if there is none"
 abbrev pub labelNumber : (file : List ℕ) (a : ℕ) → ℕ
 labelNumber file a = textAt file a * 65536 + textLength file a
 

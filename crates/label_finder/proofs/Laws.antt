@@ -1,4 +1,4 @@
--- The claims of specs/Claims.antt, each proved under its name.
+-- The claims of specs/Claims.antt and the laws of specs/Laws.antt, each proved under its name.
 -- Assumes nothing.
 use Prim.Native.Nat.{ℕ, _+_, _*_, _-_, _≤_, _<_, min}
 use mathlib.Core.Path.{_≡_, sym, ap, _∙_}
@@ -6,17 +6,20 @@ use mathlib.Core.Logic.{_⊎_, inl, inr}
 use mathlib.Core.Bool.{false}
 use mathlib.Core.List.{List}
 use native.Mathlib.Omega.{arith}
+use native.Mathlib.Decide.{decLt}
 use lib.Dec.{T}
 use lib.ListN.{length, getD, take, drop, length-take, length-drop}
 use lib.Seq.{getD-take, getD-drop, ext-getD}
 use Rattle.state.proofs.Bools.{fails, test}
-use Rattle.label_tables.specs.Labels.{labelCount, labelArea, labelLength, labelIndex}
+use Rattle.label_tables.specs.Labels.{labelCount, labelArea, labelLength, labelIndex, entryText, labelOf}
+use Rattle.label_tables.proofs.Entries.{entry-long, entry-byte, text-there, text-none}
 use Rattle.label_tables.proofs.Laws.{label-found, label-there, label-area-fits, label-length-fits}
 use Rattle.site_format.specs.Format.{labels, offsetIn, sizeIn, part}
-use Rattle.site_file.specs.Reading.{refusalOf}
+use Rattle.site_file.specs.Reading.{fileRefusal}
 use Rattle.site_file.proofs.Checked.{checked, sized}
 use Rattle.label_finder.specs.Finder.{hasLabel, textAt, textLength, labelText}
 use Rattle.label_finder.specs.Claims
+use Rattle.label_finder.specs.Laws
 use Rattle.label_finder.specs.Claims.{AtFront}
 use Rattle.label_finder.proofs.Texts.{entry, found, front, no-refusal, an-entry, labelled}
 
@@ -40,14 +43,14 @@ no-label-above file a h = at-front file a above
         let same : labelArea (part file labels) (entry file a) ≡ a = label-there (part file labels) a (an-entry file a t) in
         omega arith
 
-pub label-behind-front : Claims.LabelBehindFront
+pub label-behind-front : Laws.LabelBehindFront
 label-behind-front file a t = rw (found file a t .0) (omega arith)
 
-pub no-label-at-front : Claims.NoLabelAtFront
+pub no-label-at-front : Laws.NoLabelAtFront
 no-label-at-front file a e = at-front file a (fails e)
 
 -- entry k of the table lies in the file, and its text within the entry
-module _ (file : List ℕ) (e : refusalOf file ≡ 0) (k : ℕ) (h : k < labelCount (part file labels)) where
+module _ (file : List ℕ) (e : fileRefusal file ≡ 0) (k : ℕ) (h : k < labelCount (part file labels)) where
   text-within : labelLength (part file labels) k ≤ 30
   text-within = label-length-fits (part file labels) k (checked file e .in-range labels) h .1
 
@@ -67,15 +70,15 @@ label-inside file a = go (test (hasLabel file a))
         rw (f .0, f .1) (omega (arith, entry-within file (no-refusal file a t) (entry file a) (an-entry file a t), text-within file (no-refusal file a t) (entry file a) (an-entry file a t)))
     go (inr e) = let f = front file a (fails e) in rw (f .0, f .1) (omega arith)
 
-pub label-small : Claims.LabelSmall
+pub label-small : Laws.LabelSmall
 label-small file bytes a = go (test (hasLabel file a))
   where
     go : T (hasLabel file a) ⊎ (hasLabel file a ≡ false) → textAt file a + textLength file a < 65536
     go (inl t) = omega (arith, label-inside file a, checked file (no-refusal file a t) .length-stated, bytes 2, bytes 3)
     go (inr e) = let f = front file a (fails e) in rw (f .0, f .1) (omega arith)
 
-pub label-of : Claims.LabelOf
-label-of file k e h = record { starts = starts; text = text; long = size }
+pub label-part : Claims.LabelPart
+label-part file k e h = record { starts = starts; text = text; long = size }
   where
     table : List ℕ
     table = part file labels
@@ -106,15 +109,8 @@ label-of file k e h = record { starts = starts; text = text; long = size }
     within : k * 32 + 2 + labelLength table k ≤ length table
     within = let short : labelLength table k ≤ 30 = text-within file e k h in omega arith
 
-    size-there : length (take (labelLength table k) (drop (k * 32 + 2) table)) ≡ labelLength table k
-    size-there =
-        let n = length-take (labelLength table k) (drop (k * 32 + 2) table) in
-        let m = length-drop (k * 32 + 2) table in
-        let inside : k * 32 + 2 + labelLength table k ≤ length table = within in
-        omega arith
-
     -- byte i of both is one byte of the file
-    byte : (i : ℕ) → i < labelLength table k → getD (labelText file a) i 0 ≡ getD (take (labelLength table k) (drop (k * 32 + 2) table)) i 0
+    byte : (i : ℕ) → i < labelLength table k → getD (labelText file a) i 0 ≡ getD (entryText table k) i 0
     byte i b =
         let near : i < textLength file a = rw long b in
         let whole : length table ≡ sizeIn file labels = sized file (checked file e) labels in
@@ -126,8 +122,22 @@ label-of file k e h = record { starts = starts; text = text; long = size }
         ∙ ap (λ (n : ℕ). getD file n 0) place
         ∙ sym (getD-drop (offsetIn file labels) file (k * 32 + 2 + i) 0)
         ∙ sym (getD-take (sizeIn file labels) (drop (offsetIn file labels) file) (k * 32 + 2 + i) 0 far)
-        ∙ sym (getD-drop (k * 32 + 2) table i 0)
-        ∙ sym (getD-take (labelLength table k) (drop (k * 32 + 2) table) i 0 b)
+        ∙ sym (entry-byte table k i b)
 
-    text : labelText file a ≡ take (labelLength table k) (drop (k * 32 + 2) table)
-    text = ext-getD 0 (labelText file a) (take (labelLength table k) (drop (k * 32 + 2) table)) (size ∙ sym size-there) (λ i b. byte i (rw size at b))
+    text : labelText file a ≡ entryText table k
+    text =
+        ext-getD 0 (labelText file a) (entryText table k)
+        (size ∙ sym (entry-long table k (checked file e .in-range labels) h)) (λ i b. byte i (rw size at b))
+
+pub label-is-text : Claims.LabelIsText
+label-is-text file a e = go (decLt (entry file a) (labelCount table))
+  where
+    table : List ℕ
+    table = part file labels
+
+    go : Dec (entry file a < labelCount table) → labelText file a ≡ labelOf table a
+    go (yes h) =
+        ap (labelText file) (sym (label-there table a h))
+        ∙ label-part file (entry file a) e h .text
+        ∙ sym (text-there table a h)
+    go (no h) = at-front file a (λ t. h (an-entry file a t)) .text ∙ sym (text-none table a (omega arith))

@@ -7,7 +7,7 @@ use lib.Dec.{T, eqb, ltb, eqb→eq, ltb→lt, lt→ltb}
 use Rattle.state.proofs.Bools.{and-both, and-left, and-right, is-true, is-false}
 use Rattle.label_tables.specs.Labels.{labelCount, labelLength, labelIndex}
 use Rattle.site_format.specs.Format.{labels, offsetIn, part}
-use Rattle.site_file.specs.Reading.{refusalOf}
+use Rattle.site_file.specs.Reading.{fileRefusal}
 use Rattle.label_finder.specs.Finder.{hasLabel, textAt, textLength}
 
 module _ (file : List ℕ) (a : ℕ) where
@@ -24,11 +24,11 @@ module _ (file : List ℕ) (a : ℕ) where
   front f = rw (is-false (hasLabel file a) f) (refl, refl)
 
   -- what it says that there is a label
-  pub no-refusal : T (hasLabel file a) → refusalOf file ≡ 0
-  no-refusal t = eqb→eq (refusalOf file) 0 (and-left (eqb (refusalOf file) 0) (ltb entry (labelCount (part file labels))) t)
+  pub no-refusal : T (hasLabel file a) → fileRefusal file ≡ 0
+  no-refusal t = eqb→eq (fileRefusal file) 0 (and-left (eqb (fileRefusal file) 0) (ltb entry (labelCount (part file labels))) t)
 
   pub an-entry : T (hasLabel file a) → entry < labelCount (part file labels)
-  an-entry t = ltb→lt entry (labelCount (part file labels)) (and-right (eqb (refusalOf file) 0) (ltb entry (labelCount (part file labels))) t)
+  an-entry t = ltb→lt entry (labelCount (part file labels)) (and-right (eqb (fileRefusal file) 0) (ltb entry (labelCount (part file labels))) t)
 
-  pub labelled : refusalOf file ≡ 0 → entry < labelCount (part file labels) → T (hasLabel file a)
-  labelled e h = and-both (eqb (refusalOf file) 0) (ltb entry (labelCount (part file labels))) (rw e tt) (lt→ltb entry (labelCount (part file labels)) h)
+  pub labelled : fileRefusal file ≡ 0 → entry < labelCount (part file labels) → T (hasLabel file a)
+  labelled e h = and-both (eqb (fileRefusal file) 0) (ltb entry (labelCount (part file labels))) (rw e tt) (lt→ltb entry (labelCount (part file labels)) h)

@@ -7,12 +7,12 @@ use lib.Dec.{eqb, ltb}
 use lib.ListN.{take, drop}
 use Rattle.label_tables.specs.Labels.{labelSize, labelCount, labelLength, labelIndex}
 use Rattle.site_format.specs.Format.{labels, offsetIn, part}
-use Rattle.site_file.specs.Reading.{refusalOf}
+use Rattle.site_file.specs.Reading.{fileRefusal}
 use Rattle.label_finder.specs.declared.Place.{Place}
 
 -- the file is accepted, and the area has a label in it
 abbrev pub hasLabel : (file : List ℕ) (a : ℕ) → Bool
-hasLabel file a = eqb (refusalOf file) 0 && ltb (labelIndex (part file labels) a) (labelCount (part file labels))
+hasLabel file a = eqb (fileRefusal file) 0 && ltb (labelIndex (part file labels) a) (labelCount (part file labels))
 
 -- where the text starts, "from byte 2 of the label entry", and how long it is
 unfoldable pub textAt : (file : List ℕ) (a : ℕ) → ℕ

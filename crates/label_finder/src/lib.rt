@@ -3,7 +3,7 @@ ghost use mathlib.Core.Path.{_≡_};
 ghost use lib.Dec.{eqb};
 ghost use denote.Ref.{ptr};
 ghost use Rattle.site_format.specs.Format.{behind};
-ghost use Rattle.site_file.specs.Reading.{refusalOf};
+ghost use Rattle.site_file.specs.Reading.{fileRefusal};
 ghost use Rattle.label_finder.specs.Finder.{textAt, placeOf, labelText};
 
 // Where a text stands in a file: its first byte, and how many it has.
@@ -14,7 +14,7 @@ pub struct Place {
 
 // Is the file accepted?
 fn is_accepted(file: &[u8]) -> bool
-    ensures { λ r. ⌜ r ≡ eqb (refusalOf (now (file .entry))) 0 ⌝ }
+    ensures { λ r. ⌜ r ≡ eqb (fileRefusal (now (file .entry))) 0 ⌝ }
 {
     let reading = site_file::read(file);
     reading.refusal == 0
@@ -22,7 +22,7 @@ fn is_accepted(file: &[u8]) -> bool
 
 // Where the text of the area's label stands in the file, and how many bytes it has; both are 0 for a refused file, or
 // an area with no label.
-pub fn label_place(file: &[u8], area: u8) -> Place
+pub fn label_place(file: &[u8], area: u32) -> Place
     ensures { λ r. ⌜ r ≡ placeOf (now (file .entry)) area ⌝ }
 {
     let nowhere = Place { at: 0, length: 0 };
@@ -43,7 +43,7 @@ pub fn label_place(file: &[u8], area: u8) -> Place
 
 // The text of the area's label, as a part of the file; for a refused file, or an area with no label, the part of length
 // 0 at the file's front.
-pub fn label(file: &[u8], area: u8) -> &[u8]
+pub fn label(file: &[u8], area: u32) -> &[u8]
     ensures bytes { λ r. ⌜ now r ≡ labelText (now (file .entry)) area ⌝ }
     ensures place { λ r. ⌜ r .ptr ≡ behind (file .entry .ptr) (textAt (now (file .entry)) area) ⌝ }
 {

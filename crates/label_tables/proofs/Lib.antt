@@ -1,2 +1,3 @@
--- The claims of specs/.
+-- Laws has the claims of specs/. Entries has what the tests of a table say of its entries, and their texts.
+pub mod Entries
 pub mod Laws

@@ -1,13 +1,16 @@
--- The table of labels in a site file (document 01, 'The site file'): "A label entry has 32 bytes: area, length 1 to 30, the text (bytes 32 to 126), then zeros." A
--- table is the list of its own bytes.
+-- The table of labels in a site file (document 01, 'The site file'): "A label entry has 32 bytes: area, length 1 to 30,
+-- the text (bytes 32 to 126), then zeros." A table is the list of its own bytes.
 --     labelCount, labelArea, labelLength     how many entries there are, and the first two bytes of an entry
 --     labelsFit, labelsAscend, labelsListed  what refusals 26, 27 and 28 ask of the table
 --     labelIndex                             which entry is that of an area
+--     entryText, labelOf                     the text of an entry, and of an area's label
+--     LawfulBlock                            a table that has no partial entry, and passes 26 and 27
 use Prim.Native.Nat.{ℕ, _+_, _-_, _*_, _/_}
+use mathlib.Core.Path.{_≡_}
 use mathlib.Core.Bool.{Bool, _&&_, cond}
-use mathlib.Core.List.{List}
-use lib.Dec.{eqb, ltb, leb}
-use lib.ListN.{length, getD}
+use mathlib.Core.List.{List, []}
+use lib.Dec.{T, eqb, ltb, leb}
+use lib.ListN.{length, getD, take, drop}
 use Rattle.state.specs.Below.{eachBelow, firstBelow}
 use Rattle.state.specs.Cells.{Members, member}
 use Rattle.state.specs.Site.{area, limit}
@@ -38,14 +41,10 @@ textByte t k i = getD t (k * labelSize + 2 + i) 0
 abbrev pub byteFits : (size : ℕ) → (i byte : ℕ) → Bool
 byteFits size i byte = cond (ltb i size) (leb 32 byte && leb byte 126) (eqb byte 0)
 
--- the bytes from a place on are a text of this size and its filler
-abbrev pub textFits : List ℕ → (from size : ℕ) → ℕ → Bool
-textFits t from size i = byteFits size i (getD t (from + i) 0)
-
 abbrev pub labelFits : List ℕ → ℕ → Bool
 labelFits t k =
     ltb (labelArea t k) (limit area) && leb 1 (labelLength t k) && leb (labelLength t k) textSize
-    && eachBelow textSize (textFits t (k * labelSize + 2) (labelLength t k))
+    && eachBelow textSize (λ i. byteFits (labelLength t k) i (textByte t k i))
 
 unfoldable pub labelsFit : List ℕ → Bool
 labelsFit t = eachBelow (labelCount t) (labelFits t)
@@ -67,3 +66,18 @@ labelsListed areas t = eachBelow (labelCount t) (labelListed areas t)
 -- ---- the entry of area a: the first with that area, or the count if there is none
 unfoldable pub labelIndex : List ℕ → (a : ℕ) → ℕ
 labelIndex t a = firstBelow (labelCount t) (λ k. eqb (labelArea t k) a)
+
+-- ---- the text of area a's label
+-- the text of entry k: so many bytes from its byte 2 on
+abbrev pub entryText : List ℕ → ℕ → List ℕ
+entryText t k = take (labelLength t k) (drop (k * labelSize + 2) t)
+
+-- the text of area a's label; no bytes if the area has none (a text has 1 to 30)
+unfoldable pub labelOf : List ℕ → (a : ℕ) → List ℕ
+labelOf t a = cond (ltb (labelIndex t a) (labelCount t)) (entryText t (labelIndex t a)) []
+
+-- ---- a block of labels: a table with no partial entry, which breaks none of the label conditions of 26 and 27
+pub record LawfulBlock (t : List ℕ) : Type 0 where
+  pub whole : length t ≡ labelCount t * labelSize
+  pub in-range : T (labelsFit t)
+  pub ascending : T (labelsAscend t)

@@ -1,9 +1,11 @@
-// The table of labels, as a slice of its own bytes: whether it is in range, ascending and of listed areas, and which entry is an area's.
+// The table of labels, as a slice of its own bytes: whether it is in range, ascending and of listed areas, and which
+// entry is an area's.
 ghost use mathlib.Core.Path.{_≡_};
 ghost use Prim.Native.Nat.{_+_, _*_, _≤_};
 ghost use lib.ListN.{length};
 ghost use Rattle.state.specs.Below.{eachBelow};
-ghost use Rattle.label_tables.specs.Labels.{textFits, labelFits, labelsFit, labelsAscend, labelsListed, labelIndex};
+ghost use Rattle.label_tables.specs.Labels.{labelFits, labelsFit, labelsAscend, labelsListed, labelIndex};
+ghost use Rattle.label_tables.specs.Texts.{textFits};
 
 // Are the bytes of the text 32 to 126, and those after it 0?
 fn text_fits(table: &[u8], from: usize, size: u8) -> bool
@@ -71,13 +73,13 @@ pub fn all_listed<'a>(areas: &'a [bool], table: &'a [u8]) -> bool
     true
 }
 
-// The entry of the area, or the count of entries if there is none.
-pub fn index_of(table: &[u8], area: u8) -> usize
+// The entry of the area, or the count of entries if there is none. The area is any number: 256 is not 0.
+pub fn index_of(table: &[u8], area: u32) -> usize
     ensures { λ r. ⌜ r ≡ labelIndex (now (table .entry)) area ⌝ }
 {
     let entries = table.len() / 32;
     for k in 0..entries {
-        if table[k * 32] == area {
+        if table[k * 32] as u32 == area {
             return k;
         }
     }

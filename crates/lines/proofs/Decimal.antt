@@ -15,7 +15,8 @@ use borrow.Author.Tests.{lt-ltb, le-ltb, ne-eqb}
 use lib.ListN.{length, length-append}
 use Rattle.lines.specs.Decimal.{digit, decimalIn, decimal}
 use Rattle.lines.specs.Lines.{index}
-use Rattle.lines.specs.Claims.{DecimalOne, DecimalMore, DecimalLength}
+use Rattle.lines.specs.Claims.{DecimalOne, DecimalMore}
+use Rattle.lines.specs.Laws.{DecimalLength}
 use Rattle.lines.proofs.Parts.{index-past}
 
 -- ---- the two rules: the depth does not matter, once it is not below the number

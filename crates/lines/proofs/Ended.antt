@@ -1,19 +1,25 @@
 -- The first line of some bytes.
 --     first-ended, first-unended     the first byte 10 ends it, or none does
---     no-line, first-line, first-size, lines-at-most     the claims
+--     first-line-number, no-line, first-line, first-size, lines-at-most     the claims
 -- Assumes nothing.
 use Prim.Native.Nat.{ℕ, zero, suc, _-_, _≤_, _<_}
-use mathlib.Core.Path.{_≡_, refl}
-use mathlib.Core.List.{List, [], _∷_}
+use mathlib.Core.Path.{_≡_, refl, sym, ap, _∙_}
+use mathlib.Core.List.{List, [], _∷_, _++_}
 use native.Mathlib.Omega.{arith}
 use native.Mathlib.Decide.{decLt}
 use borrow.Author.Tests.{lt-ltb, le-ltb}
-use lib.ListN.{length, take, drop, length-drop}
-use lib.Seq.{drop-length}
-use Rattle.lines.specs.Lines.{newline, parts, lineOf, linesOf, index, first, firstLineOf}
-use Rattle.lines.specs.Claims.{NoLine, FirstLine, Sized, FirstSize, LinesAtMost}
-use Rattle.lines.specs.declared.Line.the-variants.{Unreadable}
-use Rattle.lines.proofs.Parts.{index-most, parts-found, parts-whole, parts-more}
+use lib.ListN.{length, take, drop, length-append, length-drop}
+use lib.Seq.{drop-length, take-append-seam}
+use Rattle.lines.specs.Lines.{lineNumber, newline, space, parts, lineOf, linesOf, index, first, firstLineOf}
+use Rattle.lines.specs.Decimal.{decimal}
+use Rattle.lines.specs.Claims.{textOf, ReadableFirst, FirstLineNumber}
+use Rattle.lines.specs.Claims.{NoLine}
+use Rattle.lines.specs.Laws.{FirstLine, Sized, FirstSize, LinesAtMost}
+use Rattle.lines.specs.declared.Line.{Line}
+use Rattle.lines.specs.declared.Line.the-variants.{Unreadable, Readable}
+use Rattle.lines.proofs.Parts.{index-most, index-past, parts-found, parts-whole, parts-more, join, join-parts}
+use Rattle.lines.proofs.Decimal.{decimal-lacks}
+use Rattle.lines.proofs.Texts.{readable-exactly}
 
 module _ (bytes : List ℕ) (i : ℕ) (e : i ≡ index newline bytes) where
   pub first-ended : i < length bytes → firstLineOf bytes ≡ first (lineOf (take i bytes)) (suc i)
@@ -24,6 +30,80 @@ module _ (bytes : List ℕ) (i : ℕ) (e : i ≡ index newline bytes) where
   unfolding firstLineOf
   first-unended h = rw (← e, le-ltb i (length bytes) h) refl
 
+-- ---- the number of the first line
+-- two words that lack byte 10, with a space between, lack it
+both-lack : (w v : List ℕ) → index newline w ≡ length w → index newline v ≡ length v
+    → index newline (w ++ space ∷ v) ≡ length (w ++ space ∷ v)
+unfolding index
+both-lack w v e f = rw (index-past newline w (space ∷ v) e, length-append w (space ∷ v), f) refl
+
+text-lacks : (c u a b : ℕ) → index newline (textOf c u a b) ≡ length (textOf c u a b)
+text-lacks c u a b =
+    let two = both-lack (decimal c) (decimal u) (lacks c) (lacks u) in
+    both-lack _ (decimal b) (both-lack _ (decimal a) two (lacks a)) (lacks b)
+  where
+    lacks : (n : ℕ) → index newline (decimal n) ≡ length (decimal n)
+    lacks = decimal-lacks newline (omega arith)
+
+-- the first line of a text that byte 10 ends
+line-of-text : (w rest : List ℕ) → index newline w ≡ length w → firstLineOf (w ++ newline ∷ rest) .line ≡ lineOf w
+unfolding index
+line-of-text w rest e =
+    let at : length w ≡ index newline (w ++ newline ∷ rest) = omega (arith, index-past newline w (newline ∷ rest) e) in
+    let inside : length w < length (w ++ newline ∷ rest) = omega (arith, length-append w (newline ∷ rest)) in
+    rw (first-ended (w ++ newline ∷ rest) (length w) at inside, take-append-seam w (newline ∷ rest)) refl
+
+-- the text in front of the first byte 10, and what stands behind it
+module _ (bytes : List ℕ) (h : index newline bytes < length bytes) where
+  abbrev front : List ℕ
+  front = take (index newline bytes) bytes
+
+  abbrev behind : List ℕ
+  behind = drop (suc (index newline bytes)) bytes
+
+  ended-text : bytes ≡ front ++ newline ∷ behind
+  unfolding join
+  ended-text =
+      let more = parts-more newline behind in
+      let whole : join newline (more .0 ∷ more .1) ≡ behind =
+      ap (join newline) (sym (more .2)) ∙ join-parts newline behind in
+      sym (join-parts newline bytes) ∙ ap (join newline) (parts-found newline bytes h ∙ ap (front ∷_) (more .2))
+      ∙ ap (λ (l : List ℕ). front ++ newline ∷ l) whole
+
+  -- a line in front of byte 10 is unreadable, or is so written
+  unread : (ReadableFirst bytes → ⊥) → (line : Line) → lineOf front ≡ line → lineNumber line ≡ 13
+  unread none Unreadable e = refl
+  unread none (Readable c u a b) e =
+      let w = readable-exactly front c u a b .0 e in
+      absurd
+      (none
+      (record {
+        code = c;
+        activator = u;
+        first = a;
+        second = b;
+        rest = behind;
+        below = w .below;
+        text = ended-text ∙ ap (_++ newline ∷ behind) (w .text);
+      }))
+
+pub first-line-number : FirstLineNumber
+first-line-number bytes = record { readable = read; unreadable = λ none. go none (decLt i (length bytes)) }
+  where
+    i : ℕ
+    i = index newline bytes
+
+    read : ReadableFirst bytes → lineNumber (firstLineOf bytes .line) ≡ 0
+    read w =
+        let lacks = text-lacks (w .code) (w .activator) (w .first) (w .second) in
+        rw (w .text, line-of-text (textOf _ _ _ _) (w .rest) lacks)
+        (ap lineNumber (readable-exactly _ _ _ _ _ .1 (record { below = w .below; text = refl })))
+
+    go : (ReadableFirst bytes → ⊥) → Dec (i < length bytes) → lineNumber (firstLineOf bytes .line) ≡ 13
+    go none (yes h) = rw (first-ended bytes i refl h) (unread bytes h none _ refl)
+    go none (no h) = rw (first-unended bytes i refl (omega arith)) refl
+
+-- ---- the lines of an input
 pub no-line : NoLine
 unfolding parts linesOf
 no-line = refl

@@ -1,6 +1,7 @@
--- The claims of specs/Claims.antt, each proved under its name.
+-- The claims of specs/Claims.antt and the laws of specs/Laws.antt, each proved under its name.
 -- Assumes nothing.
 use Rattle.lines.specs.Claims
+use Rattle.lines.specs.Laws
 use Rattle.lines.proofs.Decimal
 use Rattle.lines.proofs.Words
 use Rattle.lines.proofs.Texts
@@ -13,7 +14,7 @@ decimal-one = Decimal.decimal-one
 pub decimal-more : Claims.DecimalMore
 decimal-more = Decimal.decimal-more
 
-pub decimal-length : Claims.DecimalLength
+pub decimal-length : Laws.DecimalLength
 decimal-length = Decimal.decimal-length
 
 pub number-exactly : Claims.NumberExactly
@@ -23,14 +24,17 @@ number-exactly = Words.number-exactly
 pub readable-exactly : Claims.ReadableExactly
 readable-exactly = Texts.readable-exactly
 
+pub first-line-number : Claims.FirstLineNumber
+first-line-number = Ended.first-line-number
+
 pub no-line : Claims.NoLine
 no-line = Ended.no-line
 
-pub first-line : Claims.FirstLine
+pub first-line : Laws.FirstLine
 first-line = Ended.first-line
 
-pub first-size : Claims.FirstSize
+pub first-size : Laws.FirstSize
 first-size = Ended.first-size
 
-pub lines-at-most : Claims.LinesAtMost
+pub lines-at-most : Laws.LinesAtMost
 lines-at-most = Ended.lines-at-most

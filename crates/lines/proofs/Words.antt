@@ -18,7 +18,7 @@ use lib.ListN.{length, getD, take, length-append}
 use lib.Seq.{length-take-le, take-length, take-suc, take-at, take-append-seam, getD-at, getD-append-seam}
 use Rattle.state.proofs.Bools.{and-both, and-left, and-right, is-true, is-false, holds}
 use Rattle.state.proofs.Below.{first-is, first-none, first-met}
-use Rattle.lines.specs.Decimal.{digit, decimal, same, isNumber, noNumber, number}
+use Rattle.lines.specs.Decimal.{digit, decimal, same, isNumber, noNumber, wordNumber}
 use Rattle.lines.specs.Digits.{withDigit, extended}
 use Rattle.lines.specs.Lines.{index}
 use Rattle.lines.specs.Claims.{NumberExactly}
@@ -40,27 +40,27 @@ same-self (x ∷ w) = and-both (eqb x x) (same w w) (eqb-refl x) (same-self w)
 
 -- ---- the number that a word stands for
 module _ (word : List ℕ) where
-  pub number-is : (n : ℕ) → n < noNumber → word ≡ decimal n → number word ≡ n
-  unfolding number
+  pub number-is : (n : ℕ) → n < noNumber → word ≡ decimal n → wordNumber word ≡ n
+  unfolding wordNumber
   number-is n h e =
       first-is (isNumber word) noNumber n h (is-true (isNumber word n) (subst (λ (v : List ℕ). T (same word v)) e (same-self word))) other
     where
       other : (m : ℕ) → m < n → isNumber word m ≡ false
       other m b = is-false (isNumber word m) (λ t. let q : m ≡ n = decimal-injective m n (sym (same-at word (decimal m) t) ∙ e) in omega arith)
 
-  pub number-at : number word < noNumber → word ≡ decimal (number word)
-  unfolding number
-  number-at h = same-at word (decimal (number word)) (holds (first-met (isNumber word) noNumber h))
+  pub number-at : wordNumber word < noNumber → word ≡ decimal (wordNumber word)
+  unfolding wordNumber
+  number-at h = same-at word (decimal (wordNumber word)) (holds (first-met (isNumber word) noNumber h))
 
-  pub number-none : ((n : ℕ) → n < noNumber → word ≡ decimal n → ⊥) → number word ≡ noNumber
-  unfolding number
+  pub number-none : ((n : ℕ) → n < noNumber → word ≡ decimal n → ⊥) → wordNumber word ≡ noNumber
+  unfolding wordNumber
   number-none never = first-none (isNumber word) noNumber (λ n h. is-false (isNumber word n) (λ t. never n h (same-at word (decimal n) t)))
 
 pub number-exactly : NumberExactly
 number-exactly word n h = (λ e. rw e at (number-at word (rw e h)), number-is word n h)
 
-pub number-lacks : (word : List ℕ) (at : ℕ) → at < 48 → number word < noNumber → index at word ≡ length word
-number-lacks word at b h = subst (λ (v : List ℕ). index at v ≡ length v) (sym (number-at word h)) (decimal-lacks at b (number word))
+pub number-lacks : (word : List ℕ) (at : ℕ) → at < 48 → wordNumber word < noNumber → index at word ≡ length word
+number-lacks word at b h = subst (λ (v : List ℕ). index at v ≡ length v) (sym (number-at word h)) (decimal-lacks at b (wordNumber word))
 
 -- ---- what is read: the number 0 to 255 that is so, or 256 if none is
 data Read (P : ℕ → Type 0) : ℕ → Type 0 where
@@ -72,7 +72,7 @@ read-most (is k h p) = omega arith
 read-most (none f) = omega arith
 
 read-number : (word : List ℕ) {P : ℕ → Type 0} {r : ℕ} → ((k : ℕ) → k < noNumber → P k → word ≡ decimal k)
-    → ((k : ℕ) → k < noNumber → word ≡ decimal k → P k) → Read P r → number word ≡ r
+    → ((k : ℕ) → k < noNumber → word ≡ decimal k → P k) → Read P r → wordNumber word ≡ r
 read-number word to from (is k h p) = number-is word k h (to k h p)
 read-number word to from (none never) = number-none word (λ k h e. never k h (from k h e))
 
@@ -107,10 +107,10 @@ extended-read n byte = go (ℕ-discrete n 0) (with-read n byte)
     go (no e) r = rw (ne-eqb n 0 e) (more (omega arith) r)
 
 -- ---- a word read byte by byte
-pub number-empty : (word : List ℕ) → length word ≡ 0 → number word ≡ noNumber
+pub number-empty : (word : List ℕ) → length word ≡ 0 → wordNumber word ≡ noNumber
 number-empty word empty = number-none word (λ k h e. omega (arith, ap length e, decimal-some k))
 
-number-one : (byte : ℕ) → number (byte ∷ []) ≡ withDigit 0 byte
+number-one : (byte : ℕ) → wordNumber (byte ∷ []) ≡ withDigit 0 byte
 number-one byte = read-number (byte ∷ []) to (λ k h e. from k h e (decLt k 10)) (with-read 0 byte)
   where
     to : (k : ℕ) → k < noNumber → Ends 0 byte k → byte ∷ [] ≡ decimal k
@@ -130,14 +130,14 @@ last-same v w x y e =
       sym (getD-at v x [] 0 (length w) long) ∙ ap (λ (l : List ℕ). getD l (length w) 0) e ∙ getD-append-seam w y [] 0,
     )
 
-number-more : (word : List ℕ) (byte : ℕ) → 0 < length word → number (word ++ (byte ∷ [])) ≡ extended (number word) byte
-number-more word byte some = read-number (word ++ (byte ∷ [])) to (λ k h e. from k h e (decLt k 10)) (extended-read (number word) byte)
+number-more : (word : List ℕ) (byte : ℕ) → 0 < length word → wordNumber (word ++ (byte ∷ [])) ≡ extended (wordNumber word) byte
+number-more word byte some = read-number (word ++ (byte ∷ [])) to (λ k h e. from k h e (decLt k 10)) (extended-read (wordNumber word) byte)
   where
-    to : (k : ℕ) → k < noNumber → (10 ≤ k) × Ends (number word) byte k → word ++ (byte ∷ []) ≡ decimal k
+    to : (k : ℕ) → k < noNumber → (10 ≤ k) × Ends (wordNumber word) byte k → word ++ (byte ∷ []) ≡ decimal k
     to k h e =
         ap₂ (λ (v : List ℕ) (x : ℕ). v ++ (x ∷ [])) (number-exactly word (k / 10) (omega arith) .0 (e .1 .tenth)) (e .1 .last) ∙ sym (decimal-more k (e .0))
 
-    from : (k : ℕ) → k < noNumber → word ++ (byte ∷ []) ≡ decimal k → Dec (k < 10) → (10 ≤ k) × Ends (number word) byte k
+    from : (k : ℕ) → k < noNumber → word ++ (byte ∷ []) ≡ decimal k → Dec (k < 10) → (10 ≤ k) × Ends (wordNumber word) byte k
     from k h e (yes b) = absurd (omega (arith, length-append word (byte ∷ []), ap length (e ∙ decimal-one k b)))
     from k h e (no b) =
         let q = last-same word (decimal (k / 10)) byte (digit (k % 10)) (e ∙ decimal-more k (omega arith)) in
@@ -146,7 +146,7 @@ number-more word byte some = read-number (word ++ (byte ∷ [])) to (λ k h e. f
 -- n is the number of the first i bytes
 pub record NumberTo (word : List ℕ) (i n : ℕ) : Type 0 where
   pub most : n ≤ noNumber
-  pub same : n ≡ number (take i word)
+  pub same : n ≡ wordNumber (take i word)
 
 pub read-first : (word : List ℕ) (n : ℕ) → 0 < length word → n ≡ withDigit 0 (getD word 0 0) → NumberTo word 1 n
 read-first [] n some e = absurd (omega arith)
@@ -159,5 +159,5 @@ read-next word i n m some h before e =
       same = e ∙ rw (before .same, add-one i, take-suc word i 0 h) (sym (number-more (take i word) (getD word i 0) (rw (length-take-le i word (omega arith)) some)));
     }
 
-pub read-last : (word : List ℕ) (i n : ℕ) → i ≡ length word → NumberTo word i n → n ≡ number word
-read-last word i n all to = to .same ∙ ap number (rw all (take-length word))
+pub read-last : (word : List ℕ) (i n : ℕ) → i ≡ length word → NumberTo word i n → n ≡ wordNumber word
+read-last word i n all to = to .same ∙ ap wordNumber (rw all (take-length word))

@@ -1,6 +1,6 @@
 -- Decimal numbers as bytes (document 01, 'The program PanelRights'): "decimal numbers 0 to 255, without leading zeros".
---     digit, decimal     the byte of a digit, and the bytes of a number
---     number             the number that a word stands for
+--     digit, decimal         the byte of a digit, and the bytes of a number
+--     wordNumber             the number that a word stands for
 use Prim.Native.Nat.{ℕ, zero, suc, _+_, _/_, _%_}
 use mathlib.Core.Bool.{Bool, true, false, _&&_, cond}
 use mathlib.Core.List.{List, [], _∷_, _++_}
@@ -11,12 +11,14 @@ use Rattle.state.specs.Below.{firstBelow}
 abbrev pub digit : ℕ → ℕ
 digit d = 48 + d
 
--- a number below 10 is one digit; any other has its last digit behind the digits of its tenth. `depth` bounds how often that is done.
+-- a number below 10 is one digit; any other has its last digit behind the digits of its tenth. `depth` bounds how often
+-- that is done.
 unfoldable pub decimalIn : (depth n : ℕ) → List ℕ
 decimalIn zero n = digit n ∷ []
 decimalIn (suc depth) n = cond (ltb n 10) (digit n ∷ []) (decimalIn depth (n / 10) ++ (digit (n % 10) ∷ []))
 
--- the bytes of a number, highest digit first, "without leading zeros": the claims DecimalOne and DecimalMore are its two rules
+-- the bytes of a number, highest digit first, "without leading zeros": the claims DecimalOne and DecimalMore are its
+-- two rules
 unfoldable pub decimal : ℕ → List ℕ
 decimal n = decimalIn n n
 
@@ -36,5 +38,5 @@ abbrev pub noNumber : ℕ
 noNumber = 256
 
 -- the number that the word stands for, 256 if it stands for none
-unfoldable pub number : (word : List ℕ) → ℕ
-number word = firstBelow noNumber (isNumber word)
+unfoldable pub wordNumber : (word : List ℕ) → ℕ
+wordNumber word = firstBelow noNumber (isNumber word)

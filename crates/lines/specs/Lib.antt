@@ -1,6 +1,9 @@
--- What a reader of this crate believes: decimal numbers as bytes (Decimal), the lines of an input (Lines), and what is claimed of the two (Claims). Digits has
--- what this crate's own functions promise each other.
+-- What a reader of this crate believes: decimal numbers as bytes (Decimal), the lines of an input (Lines), and what is
+-- claimed of the two (Claims). Laws has what the layers above use, Digits what this crate's own functions promise each
+-- other.
+--     lines::first_line    firstLineOf, lineNumber
 pub mod Decimal
 pub mod Digits
 pub mod Lines
 pub mod Claims
+pub mod Laws

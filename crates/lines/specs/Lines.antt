@@ -1,5 +1,5 @@
--- The lines of an input (document 01, 'The program PanelRights'): "lines of four decimal numbers 0 to 255, without leading zeros, one space between, each line
--- ended by byte 10; a last line lacking that is unreadable."
+-- The lines of an input (document 01, 'The program PanelRights'): "lines of four decimal numbers 0 to 255, without
+-- leading zeros, one space between, each line ended by byte 10; a last line lacking that is unreadable."
 --     parts       the parts of some bytes between those of one value
 --     lineOf      what a line says
 --     linesOf     the lines of an input
@@ -10,12 +10,13 @@ use mathlib.Core.Bool.{Bool, _&&_, cond}
 use mathlib.Core.List.{List, [], _∷_, map}
 use lib.Dec.{eqb, ltb}
 use lib.ListN.{length, take}
-use Rattle.lines.specs.Decimal.{noNumber, number}
+use Rattle.lines.specs.Decimal.{noNumber, wordNumber}
 use Rattle.lines.specs.declared.Line.{Line}
 use Rattle.lines.specs.declared.Line.the-variants.{Unreadable, Readable}
 use Rattle.lines.specs.declared.First.{First}
 
--- the paper's number for each case: 13, "unreadable line", and 0 for a line that is readable; the step then gives its own number
+-- the paper's number for each case: 13, "unreadable line", and 0 for a line that is readable; the step then gives its
+-- own number
 abbrev pub lineNumber : Line → ℕ
 lineNumber Unreadable = 13
 lineNumber (Readable c u a b) = 0
@@ -52,9 +53,10 @@ lineBy (c ∷ u ∷ a ∷ b ∷ more ∷ rest) = Unreadable
 
 -- what a line says, its byte 10 left out: its parts, "one space between", are the numbers
 unfoldable pub lineOf : (text : List ℕ) → Line
-lineOf text = lineBy (map number (parts space text))
+lineOf text = lineBy (map wordNumber (parts space text))
 
--- "each line ended by byte 10; a last line lacking that is unreadable". Behind the last byte 10 stands no line, or one that lacks it.
+-- "each line ended by byte 10; a last line lacking that is unreadable". Behind the last byte 10 stands no line, or one
+-- that lacks it.
 abbrev pub unended : List ℕ → List Line
 unended [] = []
 unended (x ∷ rest) = Unreadable ∷ []
@@ -76,7 +78,8 @@ index at (x ∷ rest) = cond (eqb x at) 0 (suc (index at rest))
 abbrev pub first : Line → ℕ → First
 first line size = record { line = line; size = size }
 
--- the first line of the bytes, and how many of them it takes, its byte 10 included; of no bytes, an unreadable line that takes none
+-- the first line of the bytes, and how many of them it takes, its byte 10 included; of no bytes, an unreadable line
+-- that takes none
 unfoldable pub firstLineOf : List ℕ → First
 firstLineOf bytes =
     cond (ltb (index newline bytes) (length bytes))

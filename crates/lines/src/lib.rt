@@ -3,9 +3,10 @@ ghost use mathlib.Core.Path.{_≡_};
 ghost use mathlib.Core.List.{[], _∷_};
 ghost use Prim.Native.Nat.{suc, _≤_, _<_};
 ghost use lib.ListN.{length, take, drop};
-ghost use Rattle.lines.specs.Decimal.{number};
+ghost use Rattle.lines.specs.Decimal.{wordNumber};
 ghost use Rattle.lines.specs.Digits.{withDigit, extended};
-ghost use Rattle.lines.specs.Lines.{index, lineBy, lineOf, firstLineOf};
+ghost use Rattle.lines.specs.Lines.{lineNumber, index, lineBy, lineOf, firstLineOf};
+ghost use Rattle.lines.specs.Claims.{NumberOfFirst};
 
 // What a line says: the code, the activator, a and b; or nothing.
 pub enum Line {
@@ -53,7 +54,7 @@ fn extended(n: u16, byte: u8) -> u16
 
 // The number 0 to 255 that the word stands for; 256 if it stands for none.
 fn number(word: &[u8]) -> u16
-    ensures { λ r. ⌜ r ≡ number (now (word .entry)) ⌝ }
+    ensures { λ r. ⌜ r ≡ wordNumber (now (word .entry)) ⌝ }
 {
     if word.len() == 0 {
         return 256;
@@ -79,7 +80,7 @@ fn line_by(code: u16, activator: u16, a: u16, b: u16) -> Line
 // The number that the first i bytes stand for.
 fn number_before(bytes: &[u8], i: usize) -> u16
     requires { ⌜ i ≤ length (now bytes) ⌝ }
-    ensures { λ r. ⌜ r ≡ number (take i (now (bytes .entry))) ⌝ }
+    ensures { λ r. ⌜ r ≡ wordNumber (take i (now (bytes .entry))) ⌝ }
 {
     number(&bytes[0..i])
 }
@@ -92,7 +93,8 @@ fn behind(bytes: &[u8], i: usize) -> &[u8]
     &bytes[i + 1..]
 }
 
-// What a line says, its byte 10 left out. What stands behind the third space is the last number, or holds a space and is none.
+// What a line says, its byte 10 left out. What stands behind the third space is the last number, or holds a space and
+// is none.
 fn read_line(text: &[u8]) -> Line
     ensures { λ r. ⌜ r ≡ lineOf (now (text .entry)) ⌝ }
 {
@@ -118,9 +120,11 @@ fn read_line(text: &[u8]) -> Line
     )
 }
 
-// The first line of the bytes, and how many of them it takes. A line that no byte 10 ends is unreadable, and takes all of them.
+// The first line of the bytes, and how many of them it takes. A line that no byte 10 ends is unreadable, and takes all
+// of them. The line's number is 0, or 13 exactly where it is unreadable.
 pub fn first_line(bytes: &[u8]) -> First
-    ensures { λ r. ⌜ r ≡ firstLineOf (now (bytes .entry)) ⌝ }
+    ensures equation { λ r. ⌜ r ≡ firstLineOf (now (bytes .entry)) ⌝ }
+    ensures number { λ r. ⌜ NumberOfFirst (now (bytes .entry)) (lineNumber (r .line)) ⌝ }
 {
     let i = index(bytes, 10);
     if i < bytes.len() {

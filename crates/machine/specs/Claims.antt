@@ -1,45 +1,29 @@
--- What is claimed of the numbers that a step gives, of an unsound state, of the access question and of a refusal, and of a list of instructions. Each claim is a type, which proofs/Laws.antt inhabits under the claim's name.
-use Prim.Native.Nat.{ℕ, _≤_, _<_}
+-- What is claimed of the step and of the access question. Each claim is a type, which proofs/Laws.antt inhabits under
+-- the claim's name.
+use Prim.Native.Nat.{ℕ, _≤_}
 use mathlib.Core.Path.{_≡_}
-use mathlib.Core.Bool.{false}
-use mathlib.Core.List.{List, [], _∷_}
+use mathlib.Core.List.{[], _∷_}
 use Rattle.state.specs.declared.State.{State}
-use Rattle.state.specs.Checks.{firstMet}
-use Rattle.soundness.specs.Tests.{isSound}
+use Rattle.state.specs.Checks.{numbers}
 use Rattle.instructions.specs.Instructions.{Bytes}
-use Rattle.machine.specs.Step.{stepOf, run, questionRefusals, replied, replyOf}
-use Rattle.machine.specs.declared.Reply.the-variants.{Refused}
+use Rattle.machine.specs.Step.{stepOf, questionRefusals, replyOf, AnswerMeans}
 
 -- 0, or a number of the table of refusals
-abbrev pub StepNumbers : Type 0
-StepNumbers = (s : State) (bytes : Bytes) → stepOf s bytes .refusal ≤ 12
+abbrev pub RefusalNumbers : Type 0
+RefusalNumbers = (s : State) (bytes : Bytes) → stepOf s bytes .refusal ≤ 12
 
 -- "13 belongs to the program alone"
 abbrev pub NeverThirteen : Type 0
 NeverThirteen = (s : State) (bytes : Bytes) → stepOf s bytes .refusal ≡ 13 → ⊥
 
--- a number has at most two digits
-abbrev pub TwoDigits : Type 0
-TwoDigits = (s : State) (bytes : Bytes) → stepOf s bytes .refusal < 100
-
--- 12: "the state is unsound"
-abbrev pub UnsoundRefused : Type 0
-UnsoundRefused = (s : State) (bytes : Bytes) → isSound s ≡ false → stepOf s bytes .refusal ≡ 12
-
-abbrev pub UnsoundUnanswered : Type 0
-UnsoundUnanswered = (s : State) (a b : ℕ) → isSound s ≡ false → replyOf s a b ≡ Refused 12
-
--- the reply is decided by the first refusal that is met
-abbrev pub ReplyByFirst : Type 0
-ReplyByFirst = (s : State) (a b : ℕ) → replyOf s a b ≡ replied s a b (firstMet (questionRefusals s a b))
-
 -- "The state after a refusal is the state given."
 abbrev pub RefusedUnchanged : Type 0
 RefusedUnchanged = (s : State) (bytes : Bytes) → (stepOf s bytes .refusal ≡ 0 → ⊥) → stepOf s bytes .state ≡ s
 
--- no instruction, and one in front
-abbrev pub RunNone : Type 0
-RunNone = (s : State) → run s [] ≡ s
+-- "Refusals 12, 2, 4 apply in that order"
+abbrev pub QuestionOrder : Type 0
+QuestionOrder = (s : State) (a b : ℕ) → numbers (questionRefusals s a b) ≡ 12 ∷ 2 ∷ 4 ∷ []
 
-abbrev pub RunMore : Type 0
-RunMore = (s : State) (bytes : Bytes) (rest : List Bytes) → run s (bytes ∷ rest) ≡ run (stepOf s bytes .state) rest
+-- an answer of the access question is the least number of steps, or there is no chain
+abbrev pub ReplyIsRight : Type 0
+ReplyIsRight = (s : State) (a b : ℕ) → AnswerMeans s a b (replyOf s a b)

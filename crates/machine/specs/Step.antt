@@ -1,17 +1,17 @@
 -- The step, the list of steps, and the access question.
 use Prim.Native.Nat.{ℕ}
-use mathlib.Core.Path.{_≡_}
 use mathlib.Core.Bool.{not, _&&_, cond}
 use mathlib.Core.List.{List, [], _∷_}
 use lib.Dec.{eqb, ltb}
 use Rattle.state.specs.Site.{area, object, limit}
 use Rattle.state.specs.declared.State.{State}
 use Rattle.access.specs.Lending.{lending}
-use Rattle.access.specs.Answer.{answer}
+use Rattle.access.specs.Answer.{answer, unreached, answerNumber}
 use Rattle.access.specs.Claims.{Meaning}
+use Rattle.access.specs.declared.Answer.{Answer}
 use Rattle.soundness.specs.Tests.{isSound}
-use Rattle.instructions.specs.Instructions.{Bytes, numberOf, lookBoth, instructionOf}
-use Rattle.instructions.specs.Decode.{fits}
+use Rattle.instructions.specs.Instructions.{Bytes, numberOf, lookBoth}
+use Rattle.instructions.specs.Decode.{fits, decodeOf}
 use Rattle.successors.specs.Successor.{successorOf}
 use Rattle.state.specs.Checks.{Check, _when_, firstMet}
 use Rattle.refusals.specs.Refusals.{missing, refusals}
@@ -21,20 +21,20 @@ use Rattle.machine.specs.declared.Reply.the-variants.{Refused, Answered}
 
 -- ---- the step
 -- the number of the refusal, 0 for an instruction that is accepted
-unfoldable pub refusalOf : State → Bytes → ℕ
-refusalOf s bytes = firstMet (refusals s bytes)
+unfoldable pub stepRefusal : State → Bytes → ℕ
+stepRefusal s bytes = firstMet (refusals s bytes)
 
 -- the number 0 or that of the refusal, and the state after the instruction
 abbrev pub outcomeOf : ℕ → State → Outcome
 outcomeOf n s = record { refusal = n; state = s }
 
--- the state t that an instruction gives from s if it is accepted; "The state after a refusal is the state given."
-abbrev pub decided : State → State → ℕ → Outcome
-decided s t n = outcomeOf n (cond (eqb n 0) t s)
+-- the next state where the number is 0; "The state after a refusal is the state given."
+abbrev pub decided : (given next : State) → (number : ℕ) → Outcome
+decided given next number = outcomeOf number (cond (eqb number 0) next given)
 
 -- four bytes and a record, of any content: one successor state or one refusal number
 unfoldable pub stepOf : State → Bytes → Outcome
-stepOf s bytes = decided s (successorOf s bytes (instructionOf (bytes .code))) (refusalOf s bytes)
+stepOf s bytes = decided s (successorOf s bytes (decodeOf bytes)) (stepRefusal s bytes)
 
 -- the state after a list of instructions
 unfoldable pub run : State → List Bytes → State
@@ -45,26 +45,29 @@ run s (bytes ∷ rest) = run (stepOf s bytes .state) rest
 -- "Refusals 12, 2, 4 apply in that order, with the same conditions for a and b."
 abbrev pub questionRefusals : State → (a b : ℕ) → List Check
 questionRefusals s a b =
-    (12 when not (isSound s)) ∷ (2 when not (ltb a (limit area) && fits (numberOf object) b)) ∷ (4 when missing s (lookBoth object) a b) ∷ []
+    (12 when not (isSound s))
+    ∷ (2 when not (ltb a (limit area) && fits (numberOf object) b))
+    ∷ (4 when missing s (lookBoth object) a b)
+    ∷ []
 
--- the answer, or the refusal with its number
-abbrev pub replied : State → (a b n : ℕ) → Reply
-replied s a b n = cond (eqb n 0) (Answered (answer (lending s b) a)) (Refused n)
+-- the refusal with its number, or with none, which is 0, the answer
+abbrev pub refusedOr : (n : ℕ) → Answer → Reply
+refusedOr n x = cond (eqb n 0) (Answered x) (Refused n)
 
 unfoldable pub replyOf : State → (a b : ℕ) → Reply
-replyOf s a b = replied s a b (firstMet (questionRefusals s a b))
+replyOf s a b = refusedOr (firstMet (questionRefusals s a b)) (answer (lending s b) a)
 
 -- the paper's number for each case, 0 for an answer
 abbrev pub replyNumber : Reply → ℕ
 replyNumber (Refused n) = n
 replyNumber (Answered x) = 0
 
--- an answer is the least number of steps, or there is no chain (access, Meaning; its value is `number`)
-abbrev pub ReplyMeans : State → (a b : ℕ) → Reply → Type 0
-ReplyMeans s a b (Refused n) = Unit
-ReplyMeans s a b (Answered x) = Meaning (lending s b) a x
+-- and its value: the number of an answer; beside a refusal that of 'no access', so that nobody reads steps there
+abbrev pub replyValue : Reply → ℕ
+replyValue (Refused n) = unreached
+replyValue (Answered x) = answerNumber x
 
--- what `ask` promises of its reply beside the equation
-pub record Replied (s : State) (a b : ℕ) (r : Reply) : Type 0 where
-  pub first-refusal : replyNumber r ≡ firstMet (questionRefusals s a b)
-  pub meaning : ReplyMeans s a b r
+-- an answer is the least number of steps, or there is no chain (access, Meaning); a refusal has its number alone
+abbrev pub AnswerMeans : State → (a b : ℕ) → Reply → Type 0
+AnswerMeans s a b (Refused n) = Unit
+AnswerMeans s a b (Answered x) = Meaning (lending s b) a x

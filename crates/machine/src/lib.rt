@@ -3,10 +3,12 @@ ghost use mathlib.Core.Path.{_≡_};
 ghost use mathlib.Core.Bool.{_&&_};
 ghost use Rattle.state.specs.Site.{area, object, listed};
 ghost use Rattle.access.specs.Lending.{lending};
-ghost use Rattle.access.specs.Answer.{answer};
+ghost use Rattle.access.specs.Answer.{answer, answerNumber};
 ghost use Rattle.access.specs.Claims.{Meaning};
 ghost use Rattle.instructions.specs.Instructions.{fourBytes};
-ghost use Rattle.machine.specs.Step.{outcomeOf, stepOf, replyOf, Replied};
+ghost use Rattle.state.specs.Checks.{firstMet};
+ghost use Rattle.machine.specs.Step.{outcomeOf, stepOf};
+ghost use Rattle.machine.specs.Step.{questionRefusals, replyOf, replyNumber, replyValue, AnswerMeans};
 use access::Answer;
 use instructions::Decoded;
 use state::State;
@@ -71,19 +73,24 @@ fn are_listed(s: State, a: u8, b: u8) -> bool
     state::is_member(&s.areas, a) & state::is_member(&s.objects, b)
 }
 
-// In how many steps has area a access to object b? Any record, and any numbers.
-pub fn ask(s: State, a: u8, b: u8) -> Reply
+// In how many steps has area a access to object b? Any record, and any numbers: 256 is no area, and not area 0. The
+// reply's number is the first refusal that is met, 0 for none; its value is then that of the access layer's answer.
+pub fn ask(s: State, a: u32, b: u32) -> Reply
     ensures equation { λ r. ⌜ r ≡ replyOf s a b ⌝ }
-    ensures told { λ r. ⌜ Replied s a b r ⌝ }
+    ensures number { λ r. ⌜ replyNumber r ≡ firstMet (questionRefusals s a b) ⌝ }
+    ensures value { λ r. ⌜ (replyNumber r ≡ 0 → replyValue r ≡ answerNumber (answer (lending s b) a)) ⌝ }
+    ensures meaning { λ r. ⌜ AnswerMeans s a b r ⌝ }
 {
     if !inspection::is_sound(s) {
         return Reply::Refused(12);
     }
-    if !((a < State::AREAS) & (b < State::OBJECTS)) {
+    if !((a < State::AREAS as u32) & (b < State::OBJECTS as u32)) {
         return Reply::Refused(2);
     }
-    if !are_listed(s, a, b) {
+    let area = a as u8;
+    let object = b as u8;
+    if !are_listed(s, area, object) {
         return Reply::Refused(4);
     }
-    Reply::Answered(steps(s, a, b))
+    Reply::Answered(steps(s, area, object))
 }

@@ -4,7 +4,8 @@ use mathlib.Core.Bool.{Bool, true, false, cond, true≢false}
 use Prim.Native.Nat.{ℕ, zero, suc, _+_, _<_}
 use native.Mathlib.Omega.{arith}
 use borrow.Author.Count.{below-none, below-more}
-use Rattle.marks.specs.Marks.{marked, Lowest, firstFrom, lowest, LowestIsRight, OnlyOne}
+use Rattle.state.specs.Below.{firstFrom}
+use Rattle.marks.specs.Marks.{marked, Lowest, lowest, LowestIsRight, OnlyOne}
 
 -- no mark below place k is set: what a search knows that has come to k
 abbrev pub NoneBelow : ℕ → ℕ → Type 0
@@ -23,7 +24,7 @@ step : {b k m : ℕ} (t : Bool) → marked b k ≡ t → k < 8 → NoneBelow b k
 step true e l h up = found l h e
 step false e l h up = up e
 
-from : (b n k : ℕ) → k + n ≡ 8 → NoneBelow b k → Lowest b (firstFrom b n k)
+from : (b n k : ℕ) → k + n ≡ 8 → NoneBelow b k → Lowest b (firstFrom (marked b) n k)
 unfolding firstFrom
 from b zero k e h = none-found (omega arith) h
 from b (suc n) k e h =

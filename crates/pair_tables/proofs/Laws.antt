@@ -1,4 +1,4 @@
--- The claims of specs/Claims.antt, each proved under its name. A table is known by its places (Pairs.antt), which ascend.
+-- The claims of specs/Claims.antt and the laws of specs/Laws.antt, each proved under its name. A table is known by its places (Pairs.antt), which ascend.
 -- Assumes nothing.
 use Prim.Native.Nat.{ℕ, zero, suc, _+_, _*_, _-_, _/_, _%_, _≤_, _<_}
 use mathlib.Core.Path.{_≡_, refl, sym, _∙_}
@@ -16,27 +16,28 @@ use Rattle.state.proofs.Bools.{and-both, same-test, holds, fails}
 use Rattle.state.proofs.Below.{each-at, each-by, some-none, some-more}
 use Rattle.state.proofs.Ascending.{Ascends, ascends-by, at-most}
 use Rattle.state.proofs.Laws.{put-same, put-other}
-use Rattle.pair_tables.specs.Pairs.{pairSize, pairCount, firstOf, secondOf, pairFits, pairsFit, pairAscends, pairsAscend, isPairOf, hasPair, withSome, atPlace, tableOf}
+use Rattle.pair_tables.specs.Pairs.{pairSize, pairCount, firstByte, secondByte, pairFits, pairsFit, pairAscends, pairsAscend, isPairOf, hasPair, withSome, atPlace, tableOf}
 use Rattle.pair_tables.specs.Claims
+use Rattle.pair_tables.specs.Laws
 use Rattle.pair_tables.proofs.Pairs.{placeOf, with-length, is-pair, is-pair-by, has-at, has-by, fits-at, earlier-at, earlier-by, TableTo, whole, below, unique}
 
 -- ---- a table put into a relation
-pub with-pairs-length : Claims.WithPairsLength
+pub with-pairs-length : Laws.WithPairsLength
 with-pairs-length t cells = with-length (pairCount t) t cells
 
-pub with-pairs-reads : Claims.WithPairsReads
+pub with-pairs-reads : Laws.WithPairsReads
 unfolding hasPair withSome
 with-pairs-reads bound t cells fit long i j = first (pairCount t) (omega arith)
   where
     step : (n : ℕ) (b c d : Bool) → n < pairCount t → pair (withSome n t cells) i j ≡ (b || c) → isPairOf t i j n ≡ d
-        → pair (put (withSome n t cells) (firstOf t n) (secondOf t n) true) i j ≡ (b || (c || d))
+        → pair (put (withSome n t cells) (firstByte t n) (secondByte t n) true) i j ≡ (b || (c || d))
     step n b c true h e q =
         let same = is-pair t i j n (holds q) in
         let range = fits-at bound t fit n h in
         rw (or-true c, or-true b, ← (same .0), ← (same .1))
-        (put-same (withSome n t cells) bound (firstOf t n) (secondOf t n) true (with-length n t cells ∙ long) (range .0) (range .1))
+        (put-same (withSome n t cells) bound (firstByte t n) (secondByte t n) true (with-length n t cells ∙ long) (range .0) (range .1))
     step n b c false h e q =
-        rw (or-false c) (put-other (withSome n t cells) (firstOf t n) (secondOf t n) i j true (λ x y. fails q (is-pair-by t i j n (sym x) (sym y))) ∙ e)
+        rw (or-false c) (put-other (withSome n t cells) (firstByte t n) (secondByte t n) i j true (λ x y. fails q (is-pair-by t i j n (sym x) (sym y))) ∙ e)
 
     first : (n : ℕ) → n ≤ pairCount t → pair (withSome n t cells) i j ≡ (pair cells i j || someBelow n (isPairOf t i j))
     first zero h = rw (some-none (isPairOf t i j)) (sym (or-false (pair cells i j)))
@@ -52,7 +53,7 @@ at-place related i j p h e =
 
 -- a table with the relation's places
 module _ (bound : ℕ) (related : ℕ → ℕ → Bool) (t : List ℕ) (o : TableTo related (bound * width) t) where
-  first-below : (k : ℕ) → k < pairCount t → firstOf t k < bound
+  first-below : (k : ℕ) → k < pairCount t → firstByte t k < bound
   first-below k h = let p : placeOf t k < bound * width = o .ordered .inside k h in omega arith
 
   fits : T (pairsFit bound t)
@@ -61,7 +62,7 @@ module _ (bound : ℕ) (related : ℕ → ℕ → Bool) (t : List ℕ) (o : Tabl
     where
       at : (k : ℕ) → k < pairCount t → T (pairFits bound t k)
       at k h =
-          and-both (ltb (firstOf t k) bound) (ltb (secondOf t k) width) (lt→ltb (firstOf t k) bound (first-below k h)) (lt→ltb (secondOf t k) width (o .areas k h))
+          and-both (ltb (firstByte t k) bound) (ltb (secondByte t k) width) (lt→ltb (firstByte t k) bound (first-below k h)) (lt→ltb (secondByte t k) width (o .areas k h))
 
   ascends : T (pairsAscend t)
   unfolding pairsAscend
@@ -69,11 +70,11 @@ module _ (bound : ℕ) (related : ℕ → ℕ → Bool) (t : List ℕ) (o : Tabl
     where
       at : (k : ℕ) → k < pairCount t - 1 → T (pairAscends t k)
       at k h =
-          earlier-by (firstOf t k) (secondOf t k) (firstOf t (k + 1)) (secondOf t (k + 1))
+          earlier-by (firstByte t k) (secondByte t k) (firstByte t (k + 1)) (secondByte t (k + 1))
           (o .areas (k + 1) (omega arith)) (o .ordered .ascends k (k + 1) (omega arith) (omega arith))
 
-  met : (k : ℕ) → k < pairCount t → T (related (firstOf t k) (secondOf t k))
-  met k h = rw (at-place related (firstOf t k) (secondOf t k) (placeOf t k) (o .areas k h) refl) at (o .ordered .met k h)
+  met : (k : ℕ) → k < pairCount t → T (related (firstByte t k) (secondByte t k))
+  met k h = rw (at-place related (firstByte t k) (secondByte t k) (placeOf t k) (o .areas k h) refl) at (o .ordered .met k h)
 
   pairs : (i j : ℕ) → i < bound → j < width → hasPair t i j ≡ related i j
   pairs i j hi hj = same-test (hasPair t i j) (related i j) held there
@@ -90,29 +91,29 @@ module _ (bound : ℕ) (related : ℕ → ℕ → Bool) (t : List ℕ) (o : Tabl
   count = at-most (placeOf t) (pairCount t) (bound * width) (o .ordered .ascends) (o .ordered .inside)
 
   count-once : ((i j k : ℕ) → T (related i j) → T (related i k) → j ≡ k) → pairCount t ≤ bound
-  count-once once = at-most (firstOf t) (pairCount t) bound up first-below
+  count-once once = at-most (firstByte t) (pairCount t) bound up first-below
     where
-      up : Ascends (firstOf t) (pairCount t)
-      up k l h b = go (decLt (firstOf t k) (firstOf t l))
+      up : Ascends (firstByte t) (pairCount t)
+      up k l h b = go (decLt (firstByte t k) (firstByte t l))
         where
           p : placeOf t k < placeOf t l
           p = o .ordered .ascends k l h b
 
-          go : Dec (firstOf t k < firstOf t l) → firstOf t k < firstOf t l
+          go : Dec (firstByte t k < firstByte t l) → firstByte t k < firstByte t l
           go (yes c) = c
           go (no c) =
-              let a : secondOf t l < width = o .areas l b in
-              let e : firstOf t k ≡ firstOf t l = omega (arith, p) in
-              let f : secondOf t k ≡ secondOf t l = once (firstOf t l) (secondOf t k) (secondOf t l) (rw e at (met k (omega arith))) (met l b) in
+              let a : secondByte t l < width = o .areas l b in
+              let e : firstByte t k ≡ firstByte t l = omega (arith, p) in
+              let f : secondByte t k ≡ secondByte t l = once (firstByte t l) (secondByte t k) (secondByte t l) (rw e at (met k (omega arith))) (met l b) in
               absurd (omega (arith, p))
 
-pub table-whole : Claims.TableWhole
+pub table-whole : Laws.TableWhole
 table-whole bound related = whole related (bound * width)
 
-pub table-fits : Claims.TableFits
+pub table-fits : Laws.TableFits
 table-fits bound related = fits bound related (tableOf bound related) (below related (bound * width))
 
-pub table-ascends : Claims.TableAscends
+pub table-ascends : Laws.TableAscends
 table-ascends bound related = ascends bound related (tableOf bound related) (below related (bound * width))
 
 pub table-holds : Claims.TableHolds
@@ -124,7 +125,7 @@ table-count bound related = count bound related (tableOf bound related) (below r
 pub table-count-once : Claims.TableCountOnce
 table-count-once bound related = count-once bound related (tableOf bound related) (below related (bound * width))
 
-pub pairs-are-bytes : Claims.PairsAreBytes
+pub pairs-are-bytes : Laws.PairsAreBytes
 pairs-are-bytes bound t i small full fit = go (decLt i (length t))
   where
     k : ℕ
@@ -147,7 +148,7 @@ pub table-of-held : Claims.TableOfHeld
 unfolding pairsAscend
 table-of-held bound t full fit up related same = sym (take-length t) ∙ rw full (unique related t (bound * width) (pairCount t) table)
   where
-    area : (k : ℕ) → k < pairCount t → secondOf t k < width
+    area : (k : ℕ) → k < pairCount t → secondByte t k < width
     area k h = fits-at bound t fit k h .1
 
     inside : (k : ℕ) → k < pairCount t → placeOf t k < bound * width
@@ -156,7 +157,7 @@ table-of-held bound t full fit up related same = sym (take-length t) ∙ rw full
     next : (k : ℕ) → suc k < pairCount t → placeOf t k < placeOf t (suc k)
     next k h =
         let b : T (pairAscends t k) = each-at (pairAscends t) (pairCount t - 1) up k (omega arith) in
-        rw (← (add-one k)) (earlier-at (firstOf t k) (secondOf t k) (firstOf t (k + 1)) (secondOf t (k + 1)) (area k (omega arith)) b)
+        rw (← (add-one k)) (earlier-at (firstByte t k) (secondByte t k) (firstByte t (k + 1)) (secondByte t (k + 1)) (area k (omega arith)) b)
 
     held : (p : ℕ) → p < bound * width → atPlace related p ≡ hasPair t (p / width) (p % width)
     held p h = same (p / width) (p % width) (omega arith) (omega arith)

@@ -23,32 +23,32 @@ use Rattle.state.proofs.Bools.{or-left, or-right, or-cases, and-both, and-left,
 use Rattle.state.proofs.Below.{each-at, some-at, some-by}
 use Rattle.state.proofs.Ascending.{upto, at-most}
 use Rattle.state.proofs.Laws.{put-length}
-use Rattle.pair_tables.specs.Pairs.{pairSize, pairCount, firstOf, secondOf, pairFits, pairsFit, earlier, isPairOf, hasPair, withSome, atPlace, tableBelow}
-use Rattle.pair_tables.specs.Claims.{Whole}
+use Rattle.pair_tables.specs.Pairs.{pairSize, pairCount, firstByte, secondByte, pairFits, pairsFit, earlier, isPairOf, hasPair, withSome, atPlace, tableBelow}
+use Rattle.pair_tables.specs.Pairs.{Whole}
 use Rattle.pair_tables.proofs.Order.{Ordered, none, pass, more, back, last, front, moved}
 
 abbrev pub placeOf : List ℕ → ℕ → ℕ
-placeOf t k = firstOf t k * width + secondOf t k
+placeOf t k = firstByte t k * width + secondByte t k
 
 -- ---- one pair more put into a relation
-pub with-more : (n : ℕ) (t : List ℕ) (cells old : Pairs) → cells ≡ withSome n t old → put cells (firstOf t n) (secondOf t n) true ≡ withSome (n + 1) t old
+pub with-more : (n : ℕ) (t : List ℕ) (cells old : Pairs) → cells ≡ withSome n t old → put cells (firstByte t n) (secondByte t n) true ≡ withSome (n + 1) t old
 unfolding withSome
 with-more n t cells old e = rw (add-one n, e) refl
 
 pub with-length : (n : ℕ) (t : List ℕ) (cells : Pairs) → length (withSome n t cells) ≡ length cells
 unfolding withSome
 with-length zero t cells = refl
-with-length (suc n) t cells = put-length (withSome n t cells) (firstOf t n) (secondOf t n) true ∙ with-length n t cells
+with-length (suc n) t cells = put-length (withSome n t cells) (firstByte t n) (secondByte t n) true ∙ with-length n t cells
 
 -- ---- the tests of a pair
-pub is-pair : (t : List ℕ) (i j k : ℕ) → T (isPairOf t i j k) → (firstOf t k ≡ i) × (secondOf t k ≡ j)
+pub is-pair : (t : List ℕ) (i j k : ℕ) → T (isPairOf t i j k) → (firstByte t k ≡ i) × (secondByte t k ≡ j)
 is-pair t i j k b =
-    let first = eqb (firstOf t k) i in
-    let second = eqb (secondOf t k) j in
-    (eqb→eq (firstOf t k) i (and-left first second b), eqb→eq (secondOf t k) j (and-right first second b))
+    let first = eqb (firstByte t k) i in
+    let second = eqb (secondByte t k) j in
+    (eqb→eq (firstByte t k) i (and-left first second b), eqb→eq (secondByte t k) j (and-right first second b))
 
-pub is-pair-by : (t : List ℕ) (i j k : ℕ) → firstOf t k ≡ i → secondOf t k ≡ j → T (isPairOf t i j k)
-is-pair-by t i j k e f = and-both (eqb (firstOf t k) i) (eqb (secondOf t k) j) (rw e (eqb-refl i)) (rw f (eqb-refl j))
+pub is-pair-by : (t : List ℕ) (i j k : ℕ) → firstByte t k ≡ i → secondByte t k ≡ j → T (isPairOf t i j k)
+is-pair-by t i j k e f = and-both (eqb (firstByte t k) i) (eqb (secondByte t k) j) (rw e (eqb-refl i)) (rw f (eqb-refl j))
 
 pub has-at : (t : List ℕ) (i j : ℕ) → T (hasPair t i j) → (k : ℕ) × (k < pairCount t) × (placeOf t k ≡ i * width + j)
 unfolding hasPair
@@ -57,17 +57,17 @@ has-at t i j b =
     let e = is-pair t i j (s .place) (s .met) in
     (s .place, s .below, ap₂ (λ (m n : ℕ). m * width + n) (e .0) (e .1))
 
-pub has-by : (t : List ℕ) (i j k : ℕ) → k < pairCount t → secondOf t k < width → j < width → placeOf t k ≡ i * width + j → T (hasPair t i j)
+pub has-by : (t : List ℕ) (i j k : ℕ) → k < pairCount t → secondByte t k < width → j < width → placeOf t k ≡ i * width + j → T (hasPair t i j)
 unfolding hasPair
 has-by t i j k h b c e = some-by (isPairOf t i j) (pairCount t) k h (is-pair-by t i j k (omega arith) (omega arith))
 
-pub fits-at : (bound : ℕ) (t : List ℕ) → T (pairsFit bound t) → (k : ℕ) → k < pairCount t → (firstOf t k < bound) × (secondOf t k < width)
+pub fits-at : (bound : ℕ) (t : List ℕ) → T (pairsFit bound t) → (k : ℕ) → k < pairCount t → (firstByte t k < bound) × (secondByte t k < width)
 unfolding pairsFit
 fits-at bound t fits k h =
-    let first = ltb (firstOf t k) bound in
-    let second = ltb (secondOf t k) width in
+    let first = ltb (firstByte t k) bound in
+    let second = ltb (secondByte t k) width in
     let b : T (pairFits bound t k) = each-at (pairFits bound t) (pairCount t) fits k h in
-    (ltb→lt (firstOf t k) bound (and-left first second b), ltb→lt (secondOf t k) width (and-right first second b))
+    (ltb→lt (firstByte t k) bound (and-left first second b), ltb→lt (secondByte t k) width (and-right first second b))
 
 pub earlier-at : (i j m n : ℕ) → j < width → T (earlier i j m n) → i * width + j < m * width + n
 earlier-at i j m n h b = go (or-cases (ltb i m) (eqb i m && ltb j n) b)
@@ -92,7 +92,7 @@ earlier-by i j m n h b = go (decLt i m)
 -- the first m pairs of the table are those of the places below n that meet the test
 pub record Table (t : List ℕ) (f : ℕ → Bool) (m n : ℕ) : Type 0 where
   pub long : m * pairSize ≤ length t
-  pub areas : (k : ℕ) → k < m → secondOf t k < width
+  pub areas : (k : ℕ) → k < m → secondByte t k < width
   pub ordered : Ordered (placeOf t) f m n
 
 -- the bytes of the pair at a place
@@ -107,17 +107,17 @@ module _ (t : List ℕ) (f : ℕ → Bool) (m n : ℕ) (e : length t ≡ m * pai
   same : (k : ℕ) → k < m → placeOf (t ++ bytes n) k ≡ placeOf t k
   same k h = rw (kept (k * pairSize) (omega arith), kept (k * pairSize + 1) (omega arith)) refl
 
-  first : firstOf (t ++ bytes n) m ≡ n / width
+  first : firstByte (t ++ bytes n) m ≡ n / width
   first = getD-at t (n / width) (n % width ∷ []) 0 (m * pairSize) e
 
-  second : secondOf (t ++ bytes n) m ≡ n % width
+  second : secondByte (t ++ bytes n) m ≡ n % width
   second = rw (← e) (getD-append-add t (bytes n) 1 0)
 
   table-more : T (f n) → Table t f m n → Table (t ++ bytes n) f (suc m) (suc n)
   table-more b o =
       record {
         long = rw (length-append t (bytes n)) (omega arith);
-        areas = upto (λ k. secondOf (t ++ bytes n) k < width) m (rw second (omega arith)) (λ k h. rw (kept (k * pairSize + 1) (omega arith)) (o .areas k h));
+        areas = upto (λ k. secondByte (t ++ bytes n) k < width) m (rw second (omega arith)) (λ k h. rw (kept (k * pairSize + 1) (omega arith)) (o .areas k h));
         ordered = more (placeOf (t ++ bytes n)) f m n b (rw (first, second) (omega arith)) (moved (placeOf t) (placeOf (t ++ bytes n)) f m n same (o .ordered));
       }
 
@@ -147,7 +147,7 @@ module _ (related : ℕ → ℕ → Bool) where
       go t e false q o = rw (append-nil t) (record { long = o .long; areas = o .areas; ordered = pass _ _ _ n q (o .ordered) })
 
 -- the first k + 1 pairs
-take-pair : (t : List ℕ) (k : ℕ) → suc k * pairSize ≤ length t → take (suc k * pairSize) t ≡ take (k * pairSize) t ++ (firstOf t k ∷ secondOf t k ∷ [])
+take-pair : (t : List ℕ) (k : ℕ) → suc k * pairSize ≤ length t → take (suc k * pairSize) t ≡ take (k * pairSize) t ++ (firstByte t k ∷ secondByte t k ∷ [])
 take-pair t k h =
     let e : suc k * pairSize ≡ k * pairSize + 2 = omega arith in
     rw (e, take-add (k * pairSize) 2 t, drop-cons t (k * pairSize) 0 (omega arith), drop-cons t (suc (k * pairSize)) 0 (omega arith), add-one (k * pairSize)) refl
@@ -164,8 +164,8 @@ unique related t (suc n) m o = go m (atPlace related n) refl (unique related t n
     go zero true q before o = absurd (omega (arith, o .ordered .found n (omega arith) (holds q) .1))
     go (suc m) true q before o =
         let p : placeOf t m ≡ n = last (placeOf t) (atPlace related) m n (holds q) (o .ordered) in
-        let h : secondOf t m < width = o .areas m (omega arith) in
-        let i : firstOf t m ≡ n / width = omega arith in
-        let j : secondOf t m ≡ n % width = omega arith in
+        let h : secondByte t m < width = o .areas m (omega arith) in
+        let i : firstByte t m ≡ n / width = omega arith in
+        let j : secondByte t m ≡ n % width = omega arith in
         let rest : Table t (atPlace related) m n = record { long = omega (arith, o .long); areas = λ k b. o .areas k (omega arith); ordered = front _ _ m n p (o .ordered) } in
         take-pair t m (o .long) ∙ rw (before m rest, i, j) refl

@@ -1,10 +1,13 @@
--- A table of pairs in a site file (document 01, 'The site file'): "Pairs are two bytes as written above." In all five tables the second number is an area, so the
--- limit of the first is the one parameter. A table is the list of its own bytes.
---     firstOf, secondOf, pairCount     the two bytes of a pair, and how many pairs there are
---     pairsFit, pairsAscend            what refusals 26 and 27 ask of the table
---     withPairs, hasPair               the relation that the table holds
---     tableOf                          the table of a relation
+-- A table of pairs in a site file (document 01, 'The site file'): "Pairs are two bytes as written above." In all five
+-- tables the second number is an area, so the limit of the first is the one parameter. A table is the list of its own
+-- bytes.
+--     pairCount, Whole         how many pairs there are, and that none is partial
+--     firstByte, secondByte    the two bytes of a pair
+--     pairsFit, pairsAscend    what refusals 26 and 27 ask of the table
+--     withPairs, hasPair       the relation that the table holds
+--     tableOf                  the table of a relation
 use Prim.Native.Nat.{ℕ, zero, suc, _+_, _-_, _*_, _/_, _%_}
+use mathlib.Core.Path.{_≡_}
 use mathlib.Core.Bool.{Bool, true, _&&_, _||_, cond}
 use mathlib.Core.List.{List, [], _∷_, _++_}
 use lib.Dec.{eqb, ltb}
@@ -17,23 +20,25 @@ use Rattle.state.specs.Site.{area, limit}
 abbrev pub pairSize : ℕ
 pairSize = 2
 
--- how many pairs the table has, and the bytes of pair k
+-- how many pairs the table has
 abbrev pub pairCount : List ℕ → ℕ
 pairCount t = length t / pairSize
 
-abbrev pub firstOf : List ℕ → ℕ → ℕ
-firstOf t k = getD t (k * pairSize) 0
+-- the table has no partial pair
+abbrev pub Whole : List ℕ → Type 0
+Whole t = length t ≡ pairCount t * pairSize
 
-abbrev pub secondOf : List ℕ → ℕ → ℕ
-secondOf t k = getD t (k * pairSize + 1) 0
+-- the two bytes of pair k
+abbrev pub firstByte : List ℕ → ℕ → ℕ
+firstByte t k = getD t (k * pairSize) 0
 
--- ---- 26: "a number .. outside its range". The first number of pair k is below the limit, and the second is that of an area
+abbrev pub secondByte : List ℕ → ℕ → ℕ
+secondByte t k = getD t (k * pairSize + 1) 0
+
+-- ---- 26: "a number .. outside its range". The first number of pair k is below the limit, and the second is that of an
+-- area
 abbrev pub pairFits : (bound : ℕ) → List ℕ → ℕ → Bool
-pairFits n t k = ltb (firstOf t k) n && ltb (secondOf t k) (limit area)
-
--- the same of pair i behind pair k
-abbrev pub pairFitsFrom : (bound : ℕ) → List ℕ → (k i : ℕ) → Bool
-pairFitsFrom n t k i = pairFits n t (k + i)
+pairFits n t k = ltb (firstByte t k) n && ltb (secondByte t k) (limit area)
 
 unfoldable pub pairsFit : (bound : ℕ) → List ℕ → Bool
 pairsFit n t = eachBelow (pairCount t) (pairFits n t)
@@ -45,7 +50,7 @@ earlier i j m n = ltb i m || (eqb i m && ltb j n)
 
 -- pair k comes before the next
 abbrev pub pairAscends : List ℕ → ℕ → Bool
-pairAscends t k = earlier (firstOf t k) (secondOf t k) (firstOf t (k + 1)) (secondOf t (k + 1))
+pairAscends t k = earlier (firstByte t k) (secondByte t k) (firstByte t (k + 1)) (secondByte t (k + 1))
 
 unfoldable pub pairsAscend : List ℕ → Bool
 pairsAscend t = eachBelow (pairCount t - 1) (pairAscends t)
@@ -53,7 +58,7 @@ pairsAscend t = eachBelow (pairCount t - 1) (pairAscends t)
 -- ---- the relation that a table holds
 -- pair k of the table is (i, j)
 abbrev pub isPairOf : List ℕ → (i j : ℕ) → ℕ → Bool
-isPairOf t i j k = eqb (firstOf t k) i && eqb (secondOf t k) j
+isPairOf t i j k = eqb (firstByte t k) i && eqb (secondByte t k) j
 
 -- (i, j) is a pair of the table
 unfoldable pub hasPair : List ℕ → (i j : ℕ) → Bool
@@ -62,7 +67,7 @@ hasPair t i j = someBelow (pairCount t) (isPairOf t i j)
 -- a relation with some pairs of the table put into it, the first n
 unfoldable pub withSome : ℕ → List ℕ → Pairs → Pairs
 withSome zero t cells = cells
-withSome (suc n) t cells = put (withSome n t cells) (firstOf t n) (secondOf t n) true
+withSome (suc n) t cells = put (withSome n t cells) (firstByte t n) (secondByte t n) true
 
 -- a relation with all pairs of the table put into it
 abbrev pub withPairs : List ℕ → Pairs → Pairs

@@ -3,7 +3,8 @@ ghost use mathlib.Core.Path.{_≡_};
 ghost use Prim.Native.Nat.{_+_, _*_, _≤_};
 ghost use lib.ListN.{length};
 ghost use Rattle.state.specs.Below.{eachBelow};
-ghost use Rattle.pair_tables.specs.Pairs.{pairFitsFrom, pairsFit, earlier, pairsAscend, withPairs};
+ghost use Rattle.pair_tables.specs.Pairs.{pairsFit, earlier, pairsAscend, withPairs};
+ghost use Rattle.pair_tables.specs.Runs.{pairFitsFrom};
 use state::State;
 
 // Is the first number below the limit and the second that of an area, in each of so many pairs from pair k on?
@@ -18,7 +19,8 @@ fn run_fits(table: &[u8], k: usize, count: usize, limit: u8) -> bool
     fits
 }
 
-// Is the first number of each pair below the limit, and the second that of an area? Eight pairs at a time, so that the compiler compares sixteen bytes at once.
+// Is the first number of each pair below the limit, and the second that of an area? Eight pairs at a time, so that the
+// compiler compares sixteen bytes at once.
 pub fn all_fit(table: &[u8], limit: u8) -> bool
     ensures { λ r. ⌜ r ≡ pairsFit limit (now (table .entry)) ⌝ }
 {

@@ -1,6 +1,8 @@
-// PanelRights: reads lines of instructions from standard input, and prints what becomes of each and the counts of the state at the end.
+// PanelRights: reads lines of instructions from standard input, and prints what becomes of each and the counts of the
+// state at the end.
 
-// Reads to the end of the input, or until it is too long, which one byte more than the most shows. What is printed is `transcript::print`'s.
+// Reads to the end of the input, or until it is too long, which one byte more than the most shows. What is printed is
+// `transcript::print`'s.
 fn main() {
     let mut input = [0u8; transcript::MOST_READ + 1];
     let count = io::read_full(libc::STDIN_FILENO, &mut input);

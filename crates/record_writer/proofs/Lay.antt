@@ -15,7 +15,8 @@ use mir.Val.{boolByte}
 use lib.ListN.{length, getD, set, take, drop, length-append}
 use lib.Seq.{sets, sets-eq, length-sets, take-suc, take-all, length-take-le, drop-length}
 use Rattle.state.proofs.Stores.{sets-append}
-use Rattle.records.specs.Record.{bit, bits}
+use Rattle.records.specs.Record.{bit}
+use Rattle.records.specs.Bits.{bits}
 use Rattle.records.proofs.Bits.{bits-append, bits-length}
 use Rattle.record_writer.specs.Laying.{laid}
 

@@ -5,7 +5,8 @@ use mathlib.Core.Path.{_≡_, refl, ap}
 use mathlib.Core.Bool.{Bool}
 use mathlib.Core.List.{List, [], _∷_, _++_}
 use lib.ListN.{length, length-map}
-use Rattle.records.specs.Record.{bit, bits}
+use Rattle.records.specs.Record.{bit}
+use Rattle.records.specs.Bits.{bits}
 
 pub bits-append : (c d : List Bool) → bits (c ++ d) ≡ bits c ++ bits d
 bits-append [] d = refl

@@ -1,4 +1,4 @@
--- The claims of specs/Claims.antt, each proved under its name.
+-- The claims of specs/Claims.antt and the laws of specs/Laws.antt, each proved under its name.
 -- Assumes nothing.
 use Prim.Native.Nat.{ℕ, zero, suc, _+_, _*_, _≤_, _<_}
 use mathlib.Core.Path.{_≡_, refl, sym, ap, ap₂, _∙_}
@@ -18,8 +18,10 @@ use Rattle.state.proofs.Bools.{and-both, is-true, holds, test}
 use Rattle.state.proofs.Below.{each-by}
 use Rattle.state.proofs.Tabulate.{length-tabulate, getD-tabulate, tabulate-is}
 use Rattle.state.proofs.Laws.{member-cell, pair-cell, empty-shaped}
-use Rattle.records.specs.Record.{listStart, pairStart, recordSize, bit, bits, bytesOf, isBit, isRecord, isSet, cellsAt, listAt, pairsAt, stateAt, stateOf, stored}
+use Rattle.records.specs.Record.{listStart, pairStart, recordSize, bit, bytesOf, isBit, isRecord, isSet, cellsAt, listAt, pairsAt, stateAt, stateOf, stored}
+use Rattle.records.specs.Bits.{bits}
 use Rattle.records.specs.Claims
+use Rattle.records.specs.Laws
 use Rattle.records.proofs.Bits.{bits-append, bits-length}
 use Rattle.records.proofs.Known
 use Rattle.records.proofs.Places
@@ -153,7 +155,7 @@ bytes-of-state bytes t =
     ∙ all-read bytes t .read
     ∙ take-all recordSize bytes (rw (Known.record-length bytes t) (omega arith))
 
-pub state-shaped : Claims.StateShaped
+pub state-shaped : Laws.StateShaped
 state-shaped bytes = go (test (isRecord bytes))
   where
     go : T (isRecord bytes) ⊎ (isRecord bytes ≡ false) → Shaped (stateOf bytes)
@@ -161,17 +163,17 @@ state-shaped bytes = go (test (isRecord bytes))
     go (inr e) = rw (Known.no-record-empty bytes e) empty-shaped
 
 -- ---- what is no record, and a record's length
-pub no-record-empty : Claims.NoRecordEmpty
+pub no-record-empty : Laws.NoRecordEmpty
 no-record-empty = Known.no-record-empty
 
-pub record-length : Claims.RecordLength
+pub record-length : Laws.RecordLength
 record-length = Known.record-length
 
 -- ---- a buffer that has the length of a record, and one that has not
-pub stored-sized : Claims.StoredSized
+pub stored-sized : Laws.StoredSized
 unfolding stored
 stored-sized buffer s h = ap (λ (b : Bool). cond b (bytesOf s) buffer) (eq-eqb (length buffer) recordSize h)
 
-pub stored-other : Claims.StoredOther
+pub stored-other : Laws.StoredOther
 unfolding stored
 stored-other buffer s e = ap (λ (b : Bool). cond b (bytesOf s) buffer) e

@@ -15,7 +15,8 @@ use Rattle.state.specs.Tabulate.{tabulate}
 use Rattle.state.specs.Cells.{width, member, pair}
 use Rattle.state.specs.Site.{Kind, user, area, object, Relation, owner, definition, structure, import, export, limit, firstKind, members, cells, Shaped}
 use Rattle.state.specs.declared.State.{State}
-use Rattle.records.specs.Record.{listStart, pairStart, recordSize, bit, bits, listByte, listBytes, pairByte, pairBytes, bytesOf}
+use Rattle.records.specs.Record.{listStart, pairStart, recordSize, bit, listByte, listBytes, pairByte, pairBytes, bytesOf}
+use Rattle.records.specs.Bits.{bits}
 use Rattle.state.proofs.Tabulate.{length-tabulate, tabulate-is}
 use Rattle.state.proofs.Laws.{member-cell, pair-cell}
 use Rattle.records.proofs.Bits.{bits-append, bits-length}

@@ -1,18 +1,20 @@
--- The record of a state as bytes, as programs in other languages keep it: "one a place, 0 or 1", 1 where a number is listed or a pair is there. Here and above, a record is
--- these bytes; `recordOf` (state) makes the struct of the code.
+-- The record of a state as bytes, as programs in other languages keep it (include/panelrights.h): "8,320 bytes, one a
+-- place, 1 where a number is listed or a pair is there, and 0 where not." Here and above, a record is these bytes;
+-- `recordOf` (state) makes the struct of the code.
 --     listStart, pairStart, recordSize     where each set and each relation begins, and how many bytes there are
 --     bytesOf                              the bytes of a state's record
 --     isSized, isRecord, stateOf           whether bytes are a record, and of which state
 --     numberFor, stored                    a state written into a buffer
 use Prim.Native.Nat.{ℕ, _+_, _*_, _/_, _%_}
 use mathlib.Core.Bool.{Bool, _&&_, cond}
-use mathlib.Core.List.{List, _++_, map}
+use mathlib.Core.List.{List, _++_}
 use lib.Dec.{eqb, ltb}
 use lib.ListN.{length, getD}
 use Rattle.state.specs.Below.{eachBelow}
 use Rattle.state.specs.Tabulate.{tabulate}
 use Rattle.state.specs.Cells.{width}
-use Rattle.state.specs.Site.{Kind, user, area, object, limit, listed, Relation, owner, definition, structure, import, export, firstKind, related, recordOf, empty}
+use Rattle.state.specs.Site.{Kind, user, area, object, limit, listed, recordOf, empty}
+use Rattle.state.specs.Site.{Relation, owner, definition, structure, import, export, firstKind, related}
 use Rattle.state.specs.declared.State.{State}
 
 -- users 32, areas 32, objects 64: where the byte of number 0 stands
@@ -21,7 +23,8 @@ listStart user = 0
 listStart area = 32
 listStart object = 64
 
--- owners 1,024, definitions 2,048, structure 1,024, imports 2,048, exports 2,048: where the byte of the pair (0, 0) stands; that of (i, j) is i * 32 + j bytes further
+-- owners 1,024, definitions 2,048, structure 1,024, imports 2,048, exports 2,048: where the byte of the pair (0, 0)
+-- stands; that of (i, j) is i * 32 + j bytes further
 abbrev pub pairStart : Relation → ℕ
 pairStart owner = 128
 pairStart definition = 1152
@@ -44,15 +47,16 @@ listByte s k i = bit (listed s k i)
 abbrev pub listBytes : State → Kind → List ℕ
 listBytes s k = tabulate (limit k) (listByte s k)
 
--- one byte for each pair that may be there: byte p is that of (p / 32, p % 32), so the byte of (i, j) is byte i * 32 + j
+-- one byte for each pair that may be there: byte p is that of (p / 32, p % 32), so the byte of (i, j) is byte
+-- i * 32 + j
 abbrev pub pairByte : State → Relation → ℕ → ℕ
 pairByte s r p = bit (related s r (p / width) (p % width))
 
 abbrev pub pairBytes : State → Relation → List ℕ
 pairBytes s r = tabulate (limit (firstKind r) * width) (pairByte s r)
 
--- "in this order: users 32, areas 32, objects 64, owners 1,024 (user * 32 + area), definitions 2,048 (object * 32 + area), structure 1,024 (inner * 32 + outer), imports
--- 2,048, exports 2,048 (object * 32 + area)"
+-- the places in the header's order: users, areas, objects; owners (user * 32 + area), definitions (object * 32 + area),
+-- structure (inner * 32 + outer), imports and exports (object * 32 + area)
 unfoldable pub bytesOf : State → List ℕ
 bytesOf s =
     listBytes s user ++ listBytes s area ++ listBytes s object
@@ -88,21 +92,19 @@ pairsAt bytes r = cellsAt bytes (pairStart r) (limit (firstKind r) * width)
 -- the state that the places hold
 abbrev pub stateAt : (bytes : List ℕ) → State
 stateAt bytes =
-    recordOf (listAt bytes user) (listAt bytes area) (listAt bytes object) (pairsAt bytes owner) (pairsAt bytes definition) (pairsAt bytes structure) (pairsAt bytes import) (pairsAt bytes export)
+    recordOf (listAt bytes user) (listAt bytes area) (listAt bytes object)
+    (pairsAt bytes owner) (pairsAt bytes definition) (pairsAt bytes structure)
+    (pairsAt bytes import) (pairsAt bytes export)
 
 -- the state whose record the bytes are; bytes that are no record give the state of nothing, which is not sound
 unfoldable pub stateOf : (bytes : List ℕ) → State
 stateOf bytes = cond (isRecord bytes) (stateAt bytes) empty
 
 -- ---- a state written into a buffer
--- 0; or 31, which document 02 gives a buffer that is too short; here one of any other length
+-- 0; or 31, document 02's number for a buffer that is too short, for one of any other length
 abbrev pub numberFor : (buffer : List ℕ) → ℕ
 numberFor buffer = cond (isSized buffer) 0 31
 
 -- the record of the state; no byte changed in a buffer of another length
 unfoldable pub stored : (buffer : List ℕ) → State → List ℕ
 stored buffer s = cond (isSized buffer) (bytesOf s) buffer
-
--- ---- cells as bytes
-abbrev pub bits : List Bool → List ℕ
-bits cells = map bit cells

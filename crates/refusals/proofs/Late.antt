@@ -18,7 +18,7 @@ use Rattle.soundness.specs.Tests.{someListed}
 use Rattle.soundness.proofs.Laws.{some-decided}
 use Rattle.successors.specs.Successor.{withoutOwner, successor}
 use Rattle.state.specs.Checks.{Check, _when_, firstMet}
-use Rattle.refusals.specs.Refusals.{soleOwner, onlyArea, otherOwner, checks}
+use Rattle.refusals.specs.Refusals.{soleOwner, onlyArea, otherOwner, instructionChecks}
 use Rattle.refusals.specs.Parts.{early, late}
 use Rattle.instructions.specs.declared.Instruction.{Instruction}
 use Rattle.instructions.specs.declared.Instruction.the-variants.{ListArea, UnlistArea, AddOwner, RemoveOwner, AddStructure, RemoveStructure, Define, RemoveDefinition, AddImport, RemoveImport, AddExport, RemoveExport}
@@ -92,7 +92,7 @@ module _ (s : State) (shaped : Shaped s) where
 
   -- the checks 8 to 11 as the paper has them
   abbrev last-checks : Instruction → (u a b : ℕ) → List Check
-  last-checks x u a b = drop 5 (checks s x u a b)
+  last-checks x u a b = drop 5 (instructionChecks s x u a b)
 
   same-checks : (x : Instruction) (u a b : ℕ) → last-checks x u a b ≡ late (successor s x u a b) x a b
   same-checks ListArea u a b = refl
@@ -116,7 +116,7 @@ module _ (s : State) (shaped : Shaped s) where
 
   -- the number of an instruction, from the checks in two parts
   pub checks-in-two : (x : Instruction) (u a b : ℕ)
-      → firstMet (checks s x u a b) ≡ cond (eqb (firstMet (early s x u a b)) 0) (firstMet (late (successor s x u a b) x a b)) (firstMet (early s x u a b))
+      → firstMet (instructionChecks s x u a b) ≡ cond (eqb (firstMet (early s x u a b)) 0) (firstMet (late (successor s x u a b) x a b)) (firstMet (early s x u a b))
   checks-in-two x u a b =
       first-of-two (early s x u a b) (last-checks x u a b) tt
       ∙ ap (λ (l : List Check). cond (eqb (firstMet (early s x u a b)) 0) (firstMet l) (firstMet (early s x u a b))) (same-checks x u a b)

@@ -5,11 +5,10 @@ ghost use mathlib.Core.Bool.{_&&_, not};
 ghost use Rattle.state.specs.Site.{recordOf};
 ghost use Rattle.access.specs.Lending.{lending};
 ghost use Rattle.access.specs.Answer.{access};
-ghost use Rattle.instructions.specs.Instructions.{row};
+ghost use Rattle.instructions.specs.Instructions.{rule};
 ghost use Rattle.instructions.specs.declared.Instruction.the-variants.{UnlistArea};
 ghost use Rattle.state.specs.Checks.{firstMet};
-ghost use Rattle.refusals.specs.Refusals.{missingBy, entitledBy, presentBy, absentBy};
-ghost use Rattle.refusals.specs.Parts.{early, late, namesArea};
+ghost use Rattle.refusals.specs.Parts.{missingBy, entitledBy, presentBy, absentBy, early, late, namesArea};
 use access::Answer;
 use instructions::Instruction;
 use state::State;
@@ -17,7 +16,7 @@ use state::State;
 // Refusal 4: something that the instruction names is not listed. `area` says that area a is; `user`, `outer` and
 // `object` that b is too, as a user, an area or an object.
 fn is_missing(x: Instruction, area: bool, user: bool, outer: bool, object: bool) -> bool
-    ensures { λ r. ⌜ r ≡ missingBy (row x .lookup) area user outer object ⌝ }
+    ensures { λ r. ⌜ r ≡ missingBy (rule x .lookup) area user outer object ⌝ }
 {
     match x {
         Instruction::ListArea => false,
@@ -34,7 +33,7 @@ fn is_missing(x: Instruction, area: bool, user: bool, outer: bool, object: bool)
 
 // Has the activator the ownership that the instruction asks for? He owns area a, or both areas, or may cut the pair.
 fn is_entitled(x: Instruction, own: bool, both: bool, cut: bool) -> bool
-    ensures { λ r. ⌜ r ≡ entitledBy (row x .mustOwn) own both cut ⌝ }
+    ensures { λ r. ⌜ r ≡ entitledBy (rule x .mustOwn) own both cut ⌝ }
 {
     match x {
         Instruction::ListArea => true,
@@ -62,7 +61,7 @@ fn is_repeated(
     imported: bool,
     exported: bool,
 ) -> bool
-    ensures { λ r. ⌜ r ≡ (row x .adds && presentBy (row x .target) area object owned inside imported exported) ⌝ }
+    ensures { λ r. ⌜ r ≡ (rule x .adds && presentBy (rule x .target) area object owned inside imported exported) ⌝ }
 {
     match x {
         Instruction::ListArea => area,
@@ -89,7 +88,7 @@ fn is_absent(
     imported: bool,
     exported: bool,
 ) -> bool
-    ensures { λ r. ⌜ r ≡ (not (row x .adds) && absentBy (row x .target) owned defined inside imported exported) ⌝ }
+    ensures { λ r. ⌜ r ≡ (not (rule x .adds) && absentBy (rule x .target) owned defined inside imported exported) ⌝ }
 {
     match x {
         Instruction::RemoveOwner => !owned,
@@ -122,7 +121,9 @@ fn early_lent<'a>(
     a: u8,
     b: u8,
 ) -> u8
-    ensures { λ r. ⌜ r ≡ firstMet (early (recordOf (now (users .entry)) (now (areas .entry)) (now (objects .entry)) (now (owners .entry)) (now (definitions .entry)) (now (structure .entry)) (now (imports .entry)) (now (exports .entry))) x u a b) ⌝ }
+    ensures { λ r. ⌜ r ≡ firstMet (early (recordOf (now (users .entry)) (now (areas .entry)) (now (objects .entry))
+        (now (owners .entry)) (now (definitions .entry)) (now (structure .entry)) (now (imports .entry))
+        (now (exports .entry))) x u a b) ⌝ }
 {
     if !state::is_member(users, u) {
         return 3;
@@ -184,7 +185,8 @@ fn names_area<'a>(
     exports: &'a [bool],
     area: u8,
 ) -> bool
-    ensures { λ r. ⌜ r ≡ namesArea (now (owners .entry)) (now (definitions .entry)) (now (structure .entry)) (now (imports .entry)) (now (exports .entry)) area ⌝ }
+    ensures { λ r. ⌜ r ≡ namesArea (now (owners .entry)) (now (definitions .entry)) (now (structure .entry)) (now
+        (imports .entry)) (now (exports .entry)) area ⌝ }
 {
     rows::in_column(owners, area)
         | rows::in_column(definitions, area)

@@ -1,4 +1,5 @@
--- What is claimed of rows, of the numbers that pairs name, and of transposes: how they read. Each claim is a type, which proofs/Laws.antt inhabits under the claim's name.
+-- What is claimed of rows, of the numbers that pairs name, and of transposes: how they read. Each claim is a type,
+-- which proofs/Laws.antt inhabits under the claim's name.
 use Prim.Native.Nat.{ℕ, _<_}
 use mathlib.Core.Path.{_≡_}
 use mathlib.Core.Bool.{false, _&&_}

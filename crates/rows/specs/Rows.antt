@@ -1,4 +1,5 @@
--- The row of a number in a relation, the numbers that its pairs name, and a relation between areas with each pair turned round.
+-- The row of a number in a relation, the numbers that its pairs name, and a relation between areas with each pair
+-- turned round.
 use Prim.Native.Nat.{ℕ, _*_, _/_, _%_}
 use mathlib.Core.Bool.{Bool}
 use mathlib.Core.List.{List}

@@ -6,12 +6,12 @@ use Rattle.state.specs.declared.State.{State}
 use Rattle.guarantees.specs.Demand3.{Upheld}
 use Rattle.guarantees.proofs.Demand3.{demand-3}
 use Rattle.lines.specs.Lines.{linesOf}
-use Rattle.sessions.specs.Session.{stateAfter, instructionsOf, stateOf}
+use Rattle.sessions.specs.Session.{stateAfter, instructionsOf, sessionState}
 use Rattle.sessions.specs.Claims
 use Rattle.sessions.proofs.Session.{after-append, after-run, sound-after}
 
 pub session-is-run : Claims.SessionIsRun
-unfolding stateOf
+unfolding sessionState
 session-is-run input = after-run founding (linesOf input)
 
 pub session-upheld : Claims.SessionUpheld

@@ -11,8 +11,8 @@ use Rattle.lines.specs.Lines.{lineNumber, linesOf}
 use Rattle.lines.specs.declared.Line.{Line}
 use Rattle.lines.specs.declared.Line.the-variants.{Unreadable, Readable}
 
--- 13, "unreadable line", "belongs to the program alone, before the others", and "the state after a refusal is the state
--- given". A readable line is a step.
+-- 13, "unreadable line", "belongs to the program alone, before the others". "The state after a refusal is the state
+-- given." A readable line is a step.
 abbrev pub obeyed : State → Line → Outcome
 obeyed s Unreadable = outcomeOf (lineNumber Unreadable) s
 obeyed s (Readable c u a b) = stepOf s (fourBytes c u a b)
@@ -34,8 +34,8 @@ instructionsOf (Unreadable ∷ rest) = instructionsOf rest
 instructionsOf (Readable c u a b ∷ rest) = fourBytes c u a b ∷ instructionsOf rest
 
 -- the results of an input's lines, and the state after them: "It begins in F."
-unfoldable pub resultsOf : (input : List ℕ) → List ℕ
-resultsOf input = resultsFrom founding (linesOf input)
+unfoldable pub sessionResults : (input : List ℕ) → List ℕ
+sessionResults input = resultsFrom founding (linesOf input)
 
-unfoldable pub stateOf : (input : List ℕ) → State
-stateOf input = stateAfter founding (linesOf input)
+unfoldable pub sessionState : (input : List ℕ) → State
+sessionState input = stateAfter founding (linesOf input)

@@ -8,9 +8,9 @@ use lib.Dec.{T}
 use lib.ListN.{length, drop, length-drop, take-append-drop}
 use Rattle.state.specs.Site.{Relation, limit, firstKind, related}
 use Rattle.pair_tables.specs.Pairs.{pairSize}
-use Rattle.pair_tables.specs.Claims.{Whole}
+use Rattle.pair_tables.specs.Pairs.{Whole}
 use Rattle.pair_tables.proofs.Laws.{table-of-held}
-use Rattle.site_format.specs.Format.{AreBytes, headerSize, Content, pairsOf, labels, rowOf, tables, countIn, offsetIn, sizeIn, part}
+use Rattle.site_format.specs.Format.{AreBytes, headerSize, Content, pairsOf, labels, layoutOf, tables, countIn, offsetIn, sizeIn, part}
 use Rattle.site_header.specs.Header.{placedFrom}
 use Rattle.site_header.specs.Claims.{joined}
 use Rattle.site_format.proofs.Tables.{pair-size}
@@ -29,7 +29,7 @@ module _ (file : List ℕ) (k : Checked file) where
   pairs-whole : (r : Relation) → Whole (part file (pairsOf r))
   pairs-whole r = let e = pairs-sized r in omega arith
 
-  counted : (c : Content) → countIn file c ≡ length (part file c) / rowOf c .size
+  counted : (c : Content) → countIn file c ≡ length (part file c) / layoutOf c .size
   counted (pairsOf r) =
       let e = pairs-sized r in
       let half : countIn file (pairsOf r) ≡ length (part file (pairsOf r)) / pairSize = omega arith in
@@ -39,9 +39,12 @@ module _ (file : List ℕ) (k : Checked file) where
   pub lawful : Lawful (stateIn file) (part file labels)
   lawful =
       record {
-        whole = let e = sized file k labels in omega arith;
-        in-range = k .in-range labels;
-        ascending = k .ascends labels;
+        block =
+            record {
+              whole = let e = sized file k labels in omega arith;
+              in-range = k .in-range labels;
+              ascending = k .ascends labels;
+            };
         listed = k .labelled;
       }
 
@@ -58,7 +61,7 @@ module _ (file : List ℕ) (k : Checked file) where
 
   counts : (cs : List Content) → map (countIn file) cs ≡ countsOf (stateIn file) (part file labels) cs
   counts [] = refl
-  counts (c ∷ rest) = ap₂ _∷_ (counted c ∙ ap (λ (t : List ℕ). length t / rowOf c .size) (written c)) (counts rest)
+  counts (c ∷ rest) = ap₂ _∷_ (counted c ∙ ap (λ (t : List ℕ). length t / layoutOf c .size) (written c)) (counts rest)
 
   offsets : (cs : List Content) (at : ℕ) → T (placedFrom file cs at) → map (offsetIn file) cs ≡ offsetsFrom at (stateIn file) (part file labels) cs
   offsets [] at t = refl

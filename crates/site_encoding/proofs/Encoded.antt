@@ -20,7 +20,7 @@ use Rattle.pair_tables.specs.Pairs.{hasPair, tableOf}
 use Rattle.pair_tables.proofs.Laws.{pairs-are-bytes, table-whole, table-fits, table-ascends, table-holds, table-count, table-count-once}
 use Rattle.label_tables.proofs.Laws.{label-count-fits, labels-are-bytes}
 use Rattle.site_format.proofs.Tables.{content-of, pair-size}
-use Rattle.site_format.specs.Format.{AreBytes, headerSize, Content, pairsOf, labels, rowOf, tables, field, countIn, sizeIn, part, inRange, ascending}
+use Rattle.site_format.specs.Format.{AreBytes, headerSize, Content, pairsOf, labels, layoutOf, tables, field, countIn, sizeIn, part, contentFits, contentAscends}
 use Rattle.site_file.specs.Reading.{stateIn}
 use Rattle.site_encoding.specs.Encode.{Lawful, contentOf, bodyOf, countsOf, offsetsFrom, fieldBytes, fieldsOf, encode}
 use Rattle.site_encoding.proofs.Fields.{twice, field-written}
@@ -62,9 +62,9 @@ limit-small object = omega arith
 -- how many bytes tables can have
 abbrev mostBytes : List Content → ℕ
 mostBytes [] = 0
-mostBytes (c ∷ rest) = rowOf c .most * rowOf c .size + mostBytes rest
+mostBytes (c ∷ rest) = layoutOf c .most * layoutOf c .size + mostBytes rest
 
-most-small : (c : Content) → rowOf c .most < 65536
+most-small : (c : Content) → layoutOf c .most < 65536
 most-small (pairsOf owner) = omega arith
 most-small (pairsOf definition) = omega arith
 most-small (pairsOf structure) = omega arith
@@ -79,20 +79,20 @@ module _ (s : State) (l : List ℕ) (h : Sound s) (law : Lawful s l) where
       let d = h .acceptable .objects o (h .consistent definition o a p .first) in
       d .only a p ∙ sym (d .only b q)
 
-  count : (c : Content) → length (contentOf s l c) / rowOf c .size ≤ rowOf c .most
+  count : (c : Content) → length (contentOf s l c) / layoutOf c .size ≤ layoutOf c .most
   count (pairsOf owner) = table-count 32 (related s owner)
   count (pairsOf definition) = table-count-once 64 (related s definition) defined-once
   count (pairsOf structure) = table-count 32 (related s structure)
   count (pairsOf import) = table-count 64 (related s import)
   count (pairsOf export) = table-count 64 (related s export)
-  count labels = label-count-fits l (law .in-range) (law .ascending)
+  count labels = label-count-fits l (law .block .in-range) (law .block .ascending)
 
-  whole : (c : Content) → length (contentOf s l c) ≡ length (contentOf s l c) / rowOf c .size * rowOf c .size
+  whole : (c : Content) → length (contentOf s l c) ≡ length (contentOf s l c) / layoutOf c .size * layoutOf c .size
   whole (pairsOf r) = rw (pair-size r) (table-whole (limit (firstKind r)) (related s r))
-  whole labels = law .whole
+  whole labels = law .block .whole
 
-  size-fits : (c : Content) → length (contentOf s l c) ≤ rowOf c .most * rowOf c .size
-  size-fits c = rw (whole c) (mul-le-mul-right (rowOf c .size) (count c))
+  size-fits : (c : Content) → length (contentOf s l c) ≤ layoutOf c .most * layoutOf c .size
+  size-fits c = rw (whole c) (mul-le-mul-right (layoutOf c .size) (count c))
 
   body-fits : (cs : List Content) → length (bodyOf s l cs) ≤ mostBytes cs
   body-fits [] = omega arith
@@ -116,7 +116,7 @@ module _ (s : State) (l : List ℕ) (h : Sound s) (law : Lawful s l) where
   content-bytes (pairsOf r) i =
       pairs-are-bytes (limit (firstKind r)) (tableOf (limit (firstKind r)) (related s r)) i (limit-small (firstKind r)) (table-whole (limit (firstKind r)) (related s r))
       (table-fits (limit (firstKind r)) (related s r))
-  content-bytes labels i = labels-are-bytes l i (law .whole) (law .in-range)
+  content-bytes labels i = labels-are-bytes l i (law .block .whole) (law .block .in-range)
 
   body-bytes : (cs : List Content) → AreBytes (bodyOf s l cs)
   body-bytes [] i = omega arith
@@ -132,10 +132,10 @@ module _ (s : State) (l : List ℕ) (h : Sound s) (law : Lawful s l) where
     at-field k b = ap (λ (f : List ℕ). field f (twice k)) e ∙ field-written (fieldsOf s l) (bodyOf s l tables) k b (small-at (fieldsOf s l) small k)
 
     -- from a table's count to its bytes
-    bytes : (c : Content) → countIn file c ≡ length (contentOf s l c) / rowOf c .size → sizeIn file c ≡ length (contentOf s l c)
-    bytes c n = ap (λ (m : ℕ). m * rowOf c .size) n ∙ sym (whole c)
+    bytes : (c : Content) → countIn file c ≡ length (contentOf s l c) / layoutOf c .size → sizeIn file c ≡ length (contentOf s l c)
+    bytes c n = ap (λ (m : ℕ). m * layoutOf c .size) n ∙ sym (whole c)
 
-    counted : (c : Content) → countIn file c ≡ length (contentOf s l c) / rowOf c .size
+    counted : (c : Content) → countIn file c ≡ length (contentOf s l c) / layoutOf c .size
     counted (pairsOf owner) = at-field 2 (omega arith)
     counted (pairsOf definition) = at-field 3 (omega arith)
     counted (pairsOf structure) = at-field 4 (omega arith)
@@ -177,16 +177,16 @@ module _ (s : State) (l : List ℕ) (h : Sound s) (law : Lawful s l) where
     file-long : length file ≡ headerSize + length (bodyOf s l tables)
     file-long = ap length e ∙ length-append (fieldBytes (fieldsOf s l)) (bodyOf s l tables)
 
-    fits : (c : Content) → T (inRange c (contentOf s l c))
+    fits : (c : Content) → T (contentFits c (contentOf s l c))
     fits (pairsOf r) = table-fits (limit (firstKind r)) (related s r)
-    fits labels = law .in-range
+    fits labels = law .block .in-range
 
-    ascends : (c : Content) → T (ascending c (contentOf s l c))
+    ascends : (c : Content) → T (contentAscends c (contentOf s l c))
     ascends (pairsOf r) = table-ascends (limit (firstKind r)) (related s r)
-    ascends labels = law .ascending
+    ascends labels = law .block .ascending
 
-    in-range : (c : Content) → T (inRange c (part file c))
-    in-range c = subst (λ (t : List ℕ). T (inRange c t)) (sym (written c)) (fits c)
+    in-range : (c : Content) → T (contentFits c (part file c))
+    in-range c = subst (λ (t : List ℕ). T (contentFits c t)) (sym (written c)) (fits c)
 
     -- the state that the file holds
     pub held : stateIn file ≡ s
@@ -209,7 +209,7 @@ module _ (s : State) (l : List ℕ) (h : Sound s) (law : Lawful s l) where
           counts-fit = λ c. rw (counted c) (count c);
           placed = all-placed file s l tables (fieldBytes (fieldsOf s l)) e stated;
           in-range = in-range;
-          ascends = λ c. subst (λ (t : List ℕ). T (ascending c t)) (sym (written c)) (ascends c);
+          ascends = λ c. subst (λ (t : List ℕ). T (contentAscends c t)) (sym (written c)) (ascends c);
           owned = rw held (ap not (is-true (somePair (s .owners) (λ u a. true)) some-owner));
           named = rw held (consistent-decided s .1 (h .consistent));
           labelled = rw (held, written labels) (law .listed);

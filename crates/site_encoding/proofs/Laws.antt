@@ -4,9 +4,12 @@ use Prim.Native.Nat.{ℕ}
 use mathlib.Core.Path.{_≡_, sym, subst, _∙_, refl}
 use mathlib.Core.List.{List}
 use Rattle.state.specs.declared.State.{State}
-use Rattle.site_format.specs.Format.{AreBytes, labels}
-use Rattle.site_file.specs.Reading.{stateIn}
+use Rattle.label_tables.specs.Labels.{LawfulBlock}
+use Rattle.label_tables.proofs.Laws.{one-block}
+use Rattle.site_format.specs.Format.{AreBytes, labels, part}
+use Rattle.site_file.specs.Reading.{fileRefusal, readOf, stateIn}
 use Rattle.site_file.proofs.Checked.{Checked, checked, accepted, state-sound, state-read}
+use Rattle.label_finder.proofs.Laws.{label-is-text}
 use Rattle.site_encoding.specs.Encode.{encode}
 use Rattle.site_encoding.specs.Claims
 use Rattle.site_encoding.specs.Claims.{Accepted, Encoding}
@@ -43,6 +46,20 @@ one-meaning file s t l m e d =
     let a = acceptance file s l e in
     let b = acceptance file t m d in
     (sym (a .state) ∙ b .state, sym (a .block) ∙ b .block)
+
+pub one-file-of-texts : Claims.OneFileOfTexts
+one-file-of-texts f g bytes-f bytes-g ok-f ok-g same texts =
+    one-file f g bytes-f bytes-g (readOf f .state) (part f labels)
+    (record { no-refusal = ok-f; state = refl; block = refl })
+    (record { no-refusal = ok-g; state = sym same; block = sym block })
+  where
+    lawful : (file : List ℕ) → fileRefusal file ≡ 0 → LawfulBlock (part file labels)
+    lawful file ok = Accept.lawful file (checked file ok) .block
+
+    block : part f labels ≡ part g labels
+    block =
+        one-block (part f labels) (part g labels) (lawful f ok-f) (lawful g ok-g)
+        (λ a. sym (label-is-text f a ok-f) ∙ texts a ∙ label-is-text g a ok-g)
 
 pub encode-bytes : Claims.EncodeBytes
 encode-bytes s l h law = Encoded.are-bytes s l h law

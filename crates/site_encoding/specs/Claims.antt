@@ -7,12 +7,13 @@ use mathlib.Core.List.{List}
 use Rattle.state.specs.declared.State.{State}
 use Rattle.soundness.specs.Sound.{Sound}
 use Rattle.site_format.specs.Format.{AreBytes, labels, part}
-use Rattle.site_file.specs.Reading.{refusalOf, readOf}
+use Rattle.site_file.specs.Reading.{fileRefusal, readOf}
+use Rattle.label_finder.specs.Finder.{labelText}
 use Rattle.site_encoding.specs.Encode.{Lawful, encode}
 
 -- the file is accepted, with this state and this label block
 pub record Accepted (file : List ℕ) (s : State) (l : List ℕ) : Type 0 where
-  pub no-refusal : refusalOf file ≡ 0
+  pub no-refusal : fileRefusal file ≡ 0
   pub state : readOf file .state ≡ s
   pub block : part file labels ≡ l
 
@@ -22,7 +23,7 @@ pub record Encoding (file : List ℕ) (s : State) (l : List ℕ) : Type 0 where
   pub lawful : Lawful s l
   pub encoded : file ≡ encode s l
 
--- "A site file is accepted exactly when it is the single encoding of a sound state and its labels." (demand 2)
+-- Demand 2: a site file is accepted exactly when it is the single encoding of a sound state and its labels.
 abbrev pub SingleEncoding : Type 0
 SingleEncoding = (file : List ℕ) → AreBytes file → (s : State) (l : List ℕ) → Accepted file s l ↔ Encoding file s l
 
@@ -32,6 +33,13 @@ OneFile = (f g : List ℕ) → AreBytes f → AreBytes g → (s : State) (l : Li
 
 abbrev pub OneMeaning : Type 0
 OneMeaning = (file : List ℕ) (s t : State) (l m : List ℕ) → Encoding file s l → Encoding file t m → (s ≡ t) × (l ≡ m)
+
+-- Of labels as area and text: two accepted files with one state and, for every area, one label's text, or none in both,
+-- are the same bytes
+abbrev pub OneFileOfTexts : Type 0
+OneFileOfTexts =
+    (f g : List ℕ) → AreBytes f → AreBytes g → fileRefusal f ≡ 0 → fileRefusal g ≡ 0
+    → readOf f .state ≡ readOf g .state → ((a : ℕ) → labelText f a ≡ labelText g a) → f ≡ g
 
 -- and each sound state with lawful labels has a file: its encoding is bytes, and is accepted with them
 abbrev pub EncodeBytes : Type 0

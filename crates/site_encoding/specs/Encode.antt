@@ -1,20 +1,17 @@
 -- The encoding of a state and its labels as the bytes of a file, and which labels are lawful.
-use Prim.Native.Nat.{ℕ, _+_, _*_, _/_, _%_}
-use mathlib.Core.Path.{_≡_}
+use Prim.Native.Nat.{ℕ, _+_, _/_, _%_}
 use mathlib.Core.List.{List, [], _∷_, _++_}
 use lib.Dec.{T}
 use lib.ListN.{length}
 use Rattle.state.specs.Site.{limit, firstKind, related}
 use Rattle.state.specs.declared.State.{State}
 use Rattle.pair_tables.specs.Pairs.{tableOf}
-use Rattle.label_tables.specs.Labels.{labelSize, labelCount, labelsFit, labelsAscend, labelsListed}
-use Rattle.site_format.specs.Format.{headerSize, version, Content, pairsOf, labels, rowOf, tables}
+use Rattle.label_tables.specs.Labels.{labelsListed, LawfulBlock}
+use Rattle.site_format.specs.Format.{headerSize, version, Content, pairsOf, labels, layoutOf, tables}
 
 -- a label block has no partial entry, and breaks none of the label conditions of 26, 27 and 28
 pub record Lawful (s : State) (l : List ℕ) : Type 0 where
-  pub whole : length l ≡ labelCount l * labelSize
-  pub in-range : T (labelsFit l)
-  pub ascending : T (labelsAscend l)
+  pub block : LawfulBlock l
   pub listed : T (labelsListed (s .areas) l)
 
 -- the bytes of a table
@@ -30,7 +27,7 @@ bodyOf s l (c ∷ rest) = contentOf s l c ++ bodyOf s l rest
 -- "six counts, six offsets"
 abbrev pub countsOf : State → (block : List ℕ) → List Content → List ℕ
 countsOf s l [] = []
-countsOf s l (c ∷ rest) = (length (contentOf s l c) / rowOf c .size) ∷ countsOf s l rest
+countsOf s l (c ∷ rest) = (length (contentOf s l c) / layoutOf c .size) ∷ countsOf s l rest
 
 abbrev pub offsetsFrom : (at : ℕ) → State → (block : List ℕ) → List Content → List ℕ
 offsetsFrom at s l [] = []
@@ -43,7 +40,8 @@ fieldBytes (n ∷ rest) = (n % 256) ∷ (n / 256) ∷ fieldBytes rest
 
 -- "version (1), file length, six counts, six offsets"
 abbrev pub fieldsOf : State → (block : List ℕ) → List ℕ
-fieldsOf s l = version ∷ (headerSize + length (bodyOf s l tables)) ∷ (countsOf s l tables ++ offsetsFrom headerSize s l tables)
+fieldsOf s l =
+    version ∷ (headerSize + length (bodyOf s l tables)) ∷ (countsOf s l tables ++ offsetsFrom headerSize s l tables)
 
 unfoldable pub encode : State → (block : List ℕ) → List ℕ
 encode s l = fieldBytes (fieldsOf s l) ++ bodyOf s l tables

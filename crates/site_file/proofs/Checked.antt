@@ -14,11 +14,11 @@ use Rattle.state.proofs.Checks.{passed, none-met, Passed, all-passed}
 use Rattle.soundness.specs.Sound.{Sound}
 use Rattle.soundness.specs.Tests.{isConsistent, isValid}
 use Rattle.label_tables.specs.Labels.{labelsListed}
-use Rattle.site_format.specs.Format.{headerSize, Content, labels, rowOf, tables, field, countIn, sizeIn, part, inRange, ascending}
+use Rattle.site_format.specs.Format.{headerSize, Content, labels, layoutOf, tables, field, countIn, sizeIn, part, contentFits, contentAscends}
 use Rattle.site_format.proofs.Tables.{test-of, by-test}
 use Rattle.site_header.proofs.Laws.{part-size}
 use Rattle.site_header.specs.Header.{countsFit, placedFrom}
-use Rattle.site_file.specs.Reading.{tablesFit, tablesAscend, stateIn, noOwner, definedTwice, checks, refusalOf, readOf}
+use Rattle.site_file.specs.Reading.{tablesFit, tablesAscend, stateIn, noOwner, definedTwice, fileChecks, fileRefusal, readOf}
 use Rattle.site_file.proofs.Held.{derived, shaped, sound-by}
 
 -- ---- what the checks say
@@ -26,10 +26,10 @@ pub record Checked (file : List ℕ) : Type 0 where
   pub header-long : 28 ≤ length file
   pub version-known : field file 0 ≡ 1
   pub length-stated : field file 2 ≡ length file
-  pub counts-fit : (c : Content) → countIn file c ≤ rowOf c .most
+  pub counts-fit : (c : Content) → countIn file c ≤ layoutOf c .most
   pub placed : T (placedFrom file tables headerSize)
-  pub in-range : (c : Content) → T (inRange c (part file c))
-  pub ascends : (c : Content) → T (ascending c (part file c))
+  pub in-range : (c : Content) → T (contentFits c (part file c))
+  pub ascends : (c : Content) → T (contentAscends c (part file c))
   pub owned : noOwner (stateIn file) ≡ false
   pub named : T (isConsistent (stateIn file))
   pub labelled : T (labelsListed (stateIn file .areas) (part file labels))
@@ -53,17 +53,17 @@ joined none unnamed unlisted twice s = rw (s .0, s .1, s .2, s .3) refl
 not-above : (m n : ℕ) → n ≤ m → T (not (ltb m n))
 not-above m n h = rw (le-ltb m n h) tt
 
-pub checked : (file : List ℕ) → refusalOf file ≡ 0 → Checked file
-unfolding refusalOf
+pub checked : (file : List ℕ) → fileRefusal file ≡ 0 → Checked file
+unfolding fileRefusal
 checked file e =
     record {
       header-long = nltb→le (length file) 28 (so-not (ltb (length file) 28) (fails (p .0)));
       version-known = eqb→eq (field file 0) 1 (so (eqb (field file 0) 1) (p .1 .0));
       length-stated = eqb→eq (field file 2) (length file) (so (eqb (field file 2) (length file)) (p .1 .1 .0));
-      counts-fit = λ c. nltb→le (rowOf c .most) (countIn file c) (test-of (λ x. not (ltb (rowOf x .most) (countIn file x))) (so (countsFit file) (p .1 .1 .1 .0)) c);
+      counts-fit = λ c. nltb→le (layoutOf c .most) (countIn file c) (test-of (λ x. not (ltb (layoutOf x .most) (countIn file x))) (so (countsFit file) (p .1 .1 .1 .0)) c);
       placed = so (placedFrom file tables headerSize) (p .1 .1 .1 .1 .0);
-      in-range = test-of (λ x. inRange x (part file x)) (so (tablesFit file) (p .1 .1 .1 .1 .1 .0));
-      ascends = test-of (λ x. ascending x (part file x)) (so (tablesAscend file) (p .1 .1 .1 .1 .1 .1 .0));
+      in-range = test-of (λ x. contentFits x (part file x)) (so (tablesFit file) (p .1 .1 .1 .1 .1 .0));
+      ascends = test-of (λ x. contentAscends x (part file x)) (so (tablesAscend file) (p .1 .1 .1 .1 .1 .1 .0));
       owned = q .0;
       named = so (isConsistent (stateIn file)) (q .1);
       labelled = so (labelsListed (stateIn file .areas) (part file labels)) (q .2);
@@ -71,22 +71,22 @@ checked file e =
       valid = so (isValid (stateIn file)) (p .1 .1 .1 .1 .1 .1 .1 .1 .0);
     }
   where
-    p : Passed (checks file)
-    p = all-passed (checks file) tt e
+    p : Passed (fileChecks file)
+    p = all-passed (fileChecks file) tt e
 
     q : Passed28 (noOwner (stateIn file)) (not (isConsistent (stateIn file))) (not (labelsListed (stateIn file .areas) (part file labels))) (definedTwice (stateIn file))
     q = parts (noOwner (stateIn file)) (not (isConsistent (stateIn file))) (not (labelsListed (stateIn file .areas) (part file labels))) (definedTwice (stateIn file)) (p .1 .1 .1 .1 .1 .1 .1 .0)
 
-pub accepted : (file : List ℕ) → Checked file → refusalOf file ≡ 0
-unfolding refusalOf
+pub accepted : (file : List ℕ) → Checked file → fileRefusal file ≡ 0
+unfolding fileRefusal
 accepted file k =
     passed _ _ (le-ltb _ _ (k .header-long))
     ∙ passed _ _ (ap not (eq-eqb _ _ (k .version-known)))
     ∙ passed _ _ (ap not (eq-eqb _ _ (k .length-stated)))
-    ∙ passed _ _ (hold (countsFit file) (by-test (λ x. not (ltb (rowOf x .most) (countIn file x))) tables (λ c. not-above (rowOf c .most) (countIn file c) (k .counts-fit c))))
+    ∙ passed _ _ (hold (countsFit file) (by-test (λ x. not (ltb (layoutOf x .most) (countIn file x))) tables (λ c. not-above (layoutOf c .most) (countIn file c) (k .counts-fit c))))
     ∙ passed _ _ (hold (placedFrom file tables headerSize) (k .placed))
-    ∙ passed _ _ (hold (tablesFit file) (by-test (λ x. inRange x (part file x)) tables (k .in-range)))
-    ∙ passed _ _ (hold (tablesAscend file) (by-test (λ x. ascending x (part file x)) tables (k .ascends)))
+    ∙ passed _ _ (hold (tablesFit file) (by-test (λ x. contentFits x (part file x)) tables (k .in-range)))
+    ∙ passed _ _ (hold (tablesAscend file) (by-test (λ x. contentAscends x (part file x)) tables (k .ascends)))
     ∙ passed _ _ (joined (noOwner (stateIn file)) (not (isConsistent (stateIn file))) (not (labelsListed (stateIn file .areas) (part file labels))) (definedTwice (stateIn file)) (k .owned, hold (isConsistent (stateIn file)) (k .named), hold (labelsListed (stateIn file .areas) (part file labels)) (k .labelled), k .defined-once))
     ∙ passed _ _ (hold (isValid (stateIn file)) (k .valid))
     ∙ none-met
@@ -103,6 +103,6 @@ module _ (file : List ℕ) (k : Checked file) where
   sized = part-size file (k .placed)
 
 -- the state of a file that is accepted
-pub state-read : (file : List ℕ) → refusalOf file ≡ 0 → readOf file .state ≡ stateIn file
+pub state-read : (file : List ℕ) → fileRefusal file ≡ 0 → readOf file .state ≡ stateIn file
 unfolding readOf
 state-read file e = rw e refl

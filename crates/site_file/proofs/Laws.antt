@@ -10,26 +10,35 @@ use Rattle.state.specs.Site.{founding}
 use Rattle.state.proofs.Checks.{first-meets}
 use Rattle.soundness.specs.Sound.{Sound}
 use Rattle.soundness.proofs.Laws.{founding-sound}
-use Rattle.site_file.specs.Reading.{stateIn, checks, refusalOf, readOf}
+use Rattle.site_file.specs.Reading.{stateIn, fileChecks, fileRefusal, readOf}
 use Rattle.site_file.specs.Claims
 use Rattle.site_file.proofs.Checked.{checked, state-sound, state-read}
 
 -- ---- the state beside the number is sound
 pub refused-founding : Claims.RefusedFounding
 unfolding readOf
-refused-founding file ne = ap (λ (b : Bool). cond b (stateIn file) founding) (ne-eqb (refusalOf file) 0 ne)
+refused-founding file ne = ap (λ (b : Bool). cond b (stateIn file) founding) (ne-eqb (fileRefusal file) 0 ne)
 
 pub read-numbers : Claims.ReadNumbers
-unfolding refusalOf
-read-numbers file = first-meets Claims.isReadNumber (checks file) tt tt
+unfolding fileRefusal
+read-numbers file = first-meets Claims.isReadNumber (fileChecks file) tt tt
 
 pub read-number : Claims.ReadNumber
 unfolding readOf
 read-number file = refl
 
 pub read-sound : Claims.ReadSound
-read-sound file = go (ℕ-discrete (refusalOf file) 0)
+read-sound file = go (ℕ-discrete (fileRefusal file) 0)
   where
-    go : Dec (refusalOf file ≡ 0) → Sound (readOf file .state)
+    go : Dec (fileRefusal file ≡ 0) → Sound (readOf file .state)
     go (yes e) = subst Sound (sym (state-read file e)) (state-sound file (checked file e))
     go (no ne) = subst Sound (sym (refused-founding file ne)) founding-sound
+
+-- ---- the table of refusals, and the header of an accepted file
+pub file-order : Claims.FileOrder
+file-order file = refl
+
+pub accepted-header : Claims.AcceptedHeader
+accepted-header file e =
+    let k = checked file e in
+    record { long = k .header-long; version = k .version-known; size = k .length-stated }

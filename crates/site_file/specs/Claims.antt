@@ -1,29 +1,45 @@
 -- What is claimed of the reader. The single encoding is a claim of crate `site_encoding`. Each claim is a type, which
 -- proofs/Laws.antt inhabits under the claim's name.
-use Prim.Native.Nat.{ℕ}
+use Prim.Native.Nat.{ℕ, _≤_}
 use mathlib.Core.Path.{_≡_}
 use mathlib.Core.Bool.{Bool, _&&_, _||_}
-use mathlib.Core.List.{List}
+use mathlib.Core.List.{List, [], _∷_}
 use lib.Dec.{T, eqb, ltb}
+use lib.ListN.{length}
 use Rattle.state.specs.Site.{founding}
 use Rattle.soundness.specs.Sound.{Sound}
-use Rattle.site_file.specs.Reading.{refusalOf, readOf}
+use Rattle.state.specs.Checks.{numbers}
+use Rattle.site_format.specs.Format.{field}
+use Rattle.site_file.specs.Reading.{fileChecks, fileRefusal, readOf}
 
--- "A site file of any bytes gets a sound state or a refusal number" (demand 1), and the state beside the number is
--- sound as well
+-- Demand 1: a site file of any bytes gets a sound state or a refusal number; the state beside the number is sound as
+-- well
 abbrev pub ReadSound : Type 0
 ReadSound = (file : List ℕ) → Sound (readOf file .state)
 
 -- "the state beside a refusal is F"
 abbrev pub RefusedFounding : Type 0
-RefusedFounding = (file : List ℕ) → (refusalOf file ≡ 0 → ⊥) → readOf file .state ≡ founding
+RefusedFounding = (file : List ℕ) → (fileRefusal file ≡ 0 → ⊥) → readOf file .state ≡ founding
 
 -- 0, or a number of the table: "Reader refusals"
 abbrev pub isReadNumber : ℕ → Bool
 isReadNumber n = eqb n 0 || (ltb 20 n && ltb n 30)
 
 abbrev pub ReadNumbers : Type 0
-ReadNumbers = (file : List ℕ) → T (isReadNumber (refusalOf file))
+ReadNumbers = (file : List ℕ) → T (isReadNumber (fileRefusal file))
 
 abbrev pub ReadNumber : Type 0
-ReadNumber = (file : List ℕ) → readOf file .refusal ≡ refusalOf file
+ReadNumber = (file : List ℕ) → readOf file .refusal ≡ fileRefusal file
+
+-- "Reader refusals, lowest number first over the whole file"
+abbrev pub FileOrder : Type 0
+FileOrder = (file : List ℕ) → numbers (fileChecks file) ≡ 21 ∷ 22 ∷ 23 ∷ 24 ∷ 25 ∷ 26 ∷ 27 ∷ 28 ∷ 29 ∷ []
+
+-- "A header of 28 bytes, all fields 16 bits, low byte first: version (1), file length": what an accepted file states
+pub record HeaderStates (file : List ℕ) : Type 0 where
+  pub long : 28 ≤ length file
+  pub version : field file 0 ≡ 1
+  pub size : field file 2 ≡ length file
+
+abbrev pub AcceptedHeader : Type 0
+AcceptedHeader = (file : List ℕ) → fileRefusal file ≡ 0 → HeaderStates file

@@ -11,7 +11,7 @@ use lib.Dec.{T}
 use Rattle.state.specs.Site.{Relation, owner, definition, structure, import, export}
 use Rattle.state.proofs.Bools.{and-both, and-left, and-right}
 use Rattle.pair_tables.specs.Pairs.{pairSize}
-use Rattle.site_format.specs.Format.{Content, pairsOf, labels, rowOf, tables, eachTable}
+use Rattle.site_format.specs.Format.{Content, pairsOf, labels, layoutOf, tables, eachTable}
 
 -- whatever holds of each table in the list
 abbrev pub Each : (Content → Type 0) → List Content → Type 0
@@ -38,7 +38,7 @@ by-test test [] f = tt
 by-test test (c ∷ rest) f = and-both (test c) (eachTable rest test) (f c) (by-test test rest f)
 
 -- a table of pairs has pairs
-pub pair-size : (r : Relation) → rowOf (pairsOf r) .size ≡ pairSize
+pub pair-size : (r : Relation) → layoutOf (pairsOf r) .size ≡ pairSize
 pair-size owner = refl
 pair-size definition = refl
 pair-size structure = refl

@@ -34,21 +34,23 @@ pub data Content : Type 0 where
   pairsOf : Relation → Content
   labels : Content
 
--- one row: the size of an element, the most of them that there may be, and where in the header their count and the table's offset are stated
-pub record Row : Type 0 where
+-- one row: the size of an element, the most of them that there may be, and where in the header their count and the
+-- table's offset are stated
+pub record Layout : Type 0 where
   pub size : ℕ
   pub most : ℕ
   pub countAt : ℕ
   pub offsetAt : ℕ
 
--- "six counts, six offsets; both in the order owners, definitions, structure, imports, exports, labels" .. "Counts are at most 1,024, 64, 1,024, 2,048, 2,048 and 32."
-abbrev pub rowOf : Content → Row
-rowOf (pairsOf owner) = record { size = pairSize; most = 1024; countAt = 4; offsetAt = 16 }
-rowOf (pairsOf definition) = record { size = pairSize; most = 64; countAt = 6; offsetAt = 18 }
-rowOf (pairsOf structure) = record { size = pairSize; most = 1024; countAt = 8; offsetAt = 20 }
-rowOf (pairsOf import) = record { size = pairSize; most = 2048; countAt = 10; offsetAt = 22 }
-rowOf (pairsOf export) = record { size = pairSize; most = 2048; countAt = 12; offsetAt = 24 }
-rowOf labels = record { size = labelSize; most = 32; countAt = 14; offsetAt = 26 }
+-- "six counts, six offsets; both in the order owners, definitions, structure, imports, exports, labels" .. "Counts are
+-- at most 1,024, 64, 1,024, 2,048, 2,048 and 32."
+abbrev pub layoutOf : Content → Layout
+layoutOf (pairsOf owner) = record { size = pairSize; most = 1024; countAt = 4; offsetAt = 16 }
+layoutOf (pairsOf definition) = record { size = pairSize; most = 64; countAt = 6; offsetAt = 18 }
+layoutOf (pairsOf structure) = record { size = pairSize; most = 1024; countAt = 8; offsetAt = 20 }
+layoutOf (pairsOf import) = record { size = pairSize; most = 2048; countAt = 10; offsetAt = 22 }
+layoutOf (pairsOf export) = record { size = pairSize; most = 2048; countAt = 12; offsetAt = 24 }
+layoutOf labels = record { size = labelSize; most = 32; countAt = 14; offsetAt = 26 }
 
 -- "Tables follow in that order"
 abbrev pub tables : List Content
@@ -61,29 +63,30 @@ eachTable (c ∷ rest) test = test c && eachTable rest test
 
 -- ---- what a file states of a table
 abbrev pub countIn : (file : List ℕ) → Content → ℕ
-countIn file c = field file (rowOf c .countAt)
+countIn file c = field file (layoutOf c .countAt)
 
 abbrev pub offsetIn : (file : List ℕ) → Content → ℕ
-offsetIn file c = field file (rowOf c .offsetAt)
+offsetIn file c = field file (layoutOf c .offsetAt)
 
 -- how many bytes the table has, and which
 abbrev pub sizeIn : (file : List ℕ) → Content → ℕ
-sizeIn file c = countIn file c * rowOf c .size
+sizeIn file c = countIn file c * layoutOf c .size
 
 abbrev pub part : (file : List ℕ) → Content → List ℕ
 part file c = take (sizeIn file c) (drop (offsetIn file c) file)
 
 -- ---- what is asked of a table's own bytes, by its content
 -- "a number, length, text byte or filler byte" is in its range
-abbrev pub inRange : Content → List ℕ → Bool
-inRange (pairsOf r) t = pairsFit (limit (firstKind r)) t
-inRange labels t = labelsFit t
+abbrev pub contentFits : Content → List ℕ → Bool
+contentFits (pairsOf r) t = pairsFit (limit (firstKind r)) t
+contentFits labels t = labelsFit t
 
 -- "strictly ascending by first byte, then second (labels by area)"
-abbrev pub ascending : Content → List ℕ → Bool
-ascending (pairsOf r) t = pairsAscend t
-ascending labels t = labelsAscend t
+abbrev pub contentAscends : Content → List ℕ → Bool
+contentAscends (pairsOf r) t = pairsAscend t
+contentAscends labels t = labelsAscend t
 
--- a part of a slice lies `at` bytes behind the slice's front: the same memory, and no copy. A place in memory is a block and an offset.
+-- a part of a slice lies `at` bytes behind the slice's front: the same memory, and no copy. A place in memory is a
+-- block and an offset.
 abbrev pub behind : (ℕ × ℕ) → (at : ℕ) → ℕ × ℕ
 behind front at = (front .0, front .1 + at)

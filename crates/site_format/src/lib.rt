@@ -40,7 +40,8 @@ pub fn part_from(file: &[u8], from: usize, len: usize) -> &[u8]
 
 // The bytes of a table, by where the header states its count and its offset, and by the size of an element.
 fn table_at(file: &[u8], count: u8, offset: u8, size: u8) -> &[u8]
-    ensures { λ r. ⌜ now r ≡ take (field (now (file .entry)) count * size) (drop (field (now (file .entry)) offset) (now (file .entry))) ⌝ }
+    ensures { λ r. ⌜ now r ≡ take (field (now (file .entry)) count * size) (drop (field (now (file .entry)) offset)
+        (now (file .entry))) ⌝ }
 {
     let from = field_at(file, offset) as usize;
     let len = field_at(file, count) as usize * size as usize;

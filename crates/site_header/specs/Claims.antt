@@ -15,8 +15,9 @@ joined file (c ∷ rest) = part file c ++ joined file rest
 
 -- what is behind the header is the tables, and nothing else
 abbrev pub NoGap : Type 0
-NoGap = (file : List ℕ) → T (placedFrom file tables headerSize) → drop headerSize file ≡ joined file tables
+NoGap = (file : List ℕ) → T (placedFrom file tables 28) → drop 28 file ≡ joined file tables
 
 -- each table has the bytes that its count says
 abbrev pub PartSize : Type 0
-PartSize = (file : List ℕ) → T (placedFrom file tables headerSize) → (c : Content) → length (part file c) ≡ sizeIn file c
+PartSize =
+    (file : List ℕ) → T (placedFrom file tables headerSize) → (c : Content) → length (part file c) ≡ sizeIn file c

@@ -5,11 +5,12 @@ use mathlib.Core.List.{List, [], _∷_}
 use lib.Dec.{eqb, ltb}
 use lib.ListN.{length}
 use Rattle.state.specs.Checks.{Check, _when_}
-use Rattle.site_format.specs.Format.{headerSize, field, version, versionAt, lengthAt, Content, rowOf, tables, eachTable, countIn, offsetIn, sizeIn}
+use Rattle.site_format.specs.Format.{headerSize, field, version, versionAt, lengthAt, Content, layoutOf, tables}
+use Rattle.site_format.specs.Format.{eachTable, countIn, offsetIn, sizeIn}
 
 -- 24: no count is "above its limit"
 abbrev pub countsFit : (file : List ℕ) → Bool
-countsFit file = eachTable tables (λ c. not (ltb (rowOf c .most) (countIn file c)))
+countsFit file = eachTable tables (λ c. not (ltb (layoutOf c .most) (countIn file c)))
 
 -- 25: each offset, and the end, stand where they should: "Tables follow in that order with no gap, the first at 28, and
 -- the file ends with the last" .. "An empty table has the offset where it would stand."

@@ -1,4 +1,4 @@
--- The claims of specs/Claims.antt, each proved under its name.
+-- The claims of specs/Claims.antt and the laws of specs/Laws.antt, each proved under its name.
 -- Assumes nothing.
 use Prim.Native.Nat.{ℕ}
 use mathlib.Core.Path.{_≡_, refl, sym, subst}
@@ -14,14 +14,16 @@ use Rattle.state.proofs.Laws.{some-member, each-member, each-pair, has-first, h
 use Rattle.access.specs.Lending.{lending}
 use Rattle.access.specs.Answer.{access}
 use Rattle.soundness.specs.Sound.{Named, Consistent}
-use Rattle.soundness.specs.Tests.{named, consistentOf, isConsistent, allOwn, allOwned, once, allDefined, acceptableOf, isAcceptable, someListed, validOf, isValid, isSound}
+use Rattle.soundness.specs.Tests.{named, isConsistent, allOwn, allOwned, once, allDefined, isAcceptable, someListed}
+use Rattle.soundness.specs.Tests.{isValid, isSound}
 use Rattle.soundness.specs.Claims
+use Rattle.soundness.specs.Laws
 use Rattle.soundness.proofs.Tests.{named-decided, once-decided}
 use Rattle.soundness.proofs.Names.{sound-lists, same-by-names}
 
 -- ---- valid
 pub valid-decided : Claims.ValidDecided
-unfolding validOf
+unfolding isValid
 valid-decided s =
     let fits : ℕ → ℕ → Bool = λ o a. access (lending s o) a in
     let im = each-pair (s .imports) fits in
@@ -62,7 +64,7 @@ each-relation f = (there, λ e. and-both four (f export) (and-both three (f impo
     there t export = and-right four (f export) t
 
 pub consistent-decided : Claims.ConsistentDecided
-unfolding consistentOf namedIn
+unfolding namedIn
 consistent-decided s =
     let e = each-relation (namedIn s) in
     (λ t r. relation-decided s r .0 (e .0 t r), λ c. e .1 (λ r. relation-decided s r .1 (c r)))
@@ -77,7 +79,7 @@ defined-decided s =
     )
 
 pub acceptable-decided : Claims.AcceptableDecided
-unfolding acceptableOf allOwn allOwned
+unfolding allOwn allOwned
 acceptable-decided s = (
   λ t. record {
     users = λ u h. has-first (s .owners) u .0 (us .0 (and-left own owned (and-left (own && owned) defined t)) u h);
@@ -105,7 +107,7 @@ acceptable-decided s = (
     ar = each-member (s .areas) (hasSecond (s .owners))
 
 -- ---- some area
-pub some-decided : Claims.SomeDecided
+pub some-decided : Laws.SomeDecided
 unfolding someListed
 some-decided set =
     let e = some-member set (λ i. true) in
@@ -190,7 +192,7 @@ founding-sound =
     }
 
 -- an area would have an owner
-pub empty-unsound : Claims.EmptyUnsound
+pub empty-unsound : Laws.EmptyUnsound
 empty-unsound = is-false (isSound empty) none
   where
     none : T (isSound empty) → ⊥

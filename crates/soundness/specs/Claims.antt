@@ -1,29 +1,24 @@
--- What is claimed: each test decides its part, and all of them soundness; the founding state is sound, the state of
--- nothing is not, and a sound record is that of its relations. Each claim is a type, which proofs/Laws.antt inhabits
--- under the claim's name.
+-- What is claimed: each test decides its part, and all of them soundness; the founding state is sound; and a sound
+-- record is that of its relations. Each claim is a type, which proofs/Laws.antt inhabits under the claim's name.
 use Prim.Native.Nat.{ℕ}
 use mathlib.Core.Path.{_≡_}
 use mathlib.Core.Logic.{_↔_}
-use mathlib.Core.Bool.{false}
 use lib.Dec.{T}
-use Rattle.state.specs.Cells.{Members, member}
-use Rattle.state.specs.Site.{object, listed, Relation, related, Shaped, empty, founding}
+use Rattle.state.specs.Site.{object, listed, Relation, related, Shaped, founding}
 use Rattle.state.specs.declared.State.{State}
 use Rattle.soundness.specs.Sound.{Consistent, DefinedOnce, Acceptable, Valid, Sound}
-use Rattle.soundness.specs.Tests.{isConsistent, allDefined, isAcceptable, someListed, isValid, isSound}
+use Rattle.soundness.specs.Tests.{isConsistent, allDefined, isAcceptable, isValid, isSound}
 
 -- each test decides its part
 abbrev pub ConsistentDecided : Type 0
 ConsistentDecided = (s : State) → T (isConsistent s) ↔ Consistent s
 
 abbrev pub DefinedDecided : Type 0
-DefinedDecided = (s : State) → T (allDefined (s .objects) (s .definitions)) ↔ ((o : ℕ) → T (listed s object o) → DefinedOnce s o)
+DefinedDecided =
+    (s : State) → T (allDefined (s .objects) (s .definitions)) ↔ ((o : ℕ) → T (listed s object o) → DefinedOnce s o)
 
 abbrev pub AcceptableDecided : Type 0
 AcceptableDecided = (s : State) → T (isAcceptable s) ↔ Acceptable s
-
-abbrev pub SomeDecided : Type 0
-SomeDecided = (set : Members) → T (someListed set) ↔ ((i : ℕ) × T (member set i))
 
 abbrev pub ValidDecided : Type 0
 ValidDecided = (s : State) → T (isValid s) ↔ Valid s
@@ -35,10 +30,7 @@ SoundDecided = (s : State) → Shaped s → T (isSound s) ↔ Sound s
 abbrev pub FoundingSound : Type 0
 FoundingSound = Sound founding
 
--- the state of nothing has no area
-abbrev pub EmptyUnsound : Type 0
-EmptyUnsound = isSound empty ≡ false
-
 -- "the record its relations have": two sound records with the same relations are one, their lists too
 abbrev pub RecordOfRelations : Type 0
-RecordOfRelations = (s t : State) → Sound s → Sound t → ((r : Relation) (i j : ℕ) → related s r i j ≡ related t r i j) → s ≡ t
+RecordOfRelations =
+    (s t : State) → Sound s → Sound t → ((r : Relation) (i j : ℕ) → related s r i j ≡ related t r i j) → s ≡ t

@@ -5,7 +5,8 @@
 use Prim.Native.Nat.{ℕ}
 use mathlib.Core.Path.{_≡_}
 use lib.Dec.{T}
-use Rattle.state.specs.Site.{user, area, object, Relation, firstKind, listed, related, owns, defines, imports, exports, Shaped}
+use Rattle.state.specs.Site.{user, area, object, Relation, firstKind, listed, related, owns, defines, imports, exports}
+use Rattle.state.specs.Site.{Shaped}
 use Rattle.state.specs.declared.State.{State}
 use Rattle.access.specs.Lending.{lending}
 use Rattle.access.specs.Answer.{access}

@@ -1,6 +1,7 @@
 -- Numbers in ascending order.
 --     upto                     what holds of n and of each number below it
 --     Ascends, ascends-by      each number is below every later one, if it is below the next
+--     at-least                 of ascending numbers, the one at place k is at least k
 --     at-most                  ascending numbers below n are at most n
 -- Assumes nothing.
 use Prim.Native.Nat.{ℕ, zero, suc, _≤_, _<_}
@@ -30,7 +31,7 @@ module _ (place : ℕ → ℕ) where
       further : (i : ℕ) → place i < place l → place i < place (suc l)
       further i q = omega (arith, step)
 
-  at-least : (m : ℕ) → Ascends place m → (k : ℕ) → k < m → k ≤ place k
+  pub at-least : (m : ℕ) → Ascends place m → (k : ℕ) → k < m → k ≤ place k
   at-least m up zero h = omega arith
   at-least m up (suc k) h =
       let before : k ≤ place k = at-least m up k (omega arith) in

@@ -16,11 +16,10 @@ use mathlib.Core.Bool.{Bool, true, false, _&&_, _||_, cond, and-true, and-assoc}
 use native.Mathlib.Nat.{not-suc-le-zero, add-zero, add-suc}
 use native.Mathlib.Numerals.{add-one}
 use native.Mathlib.Omega.{arith}
-use native.Mathlib.Decide.{ℕ-discrete, decLt}
-use lib.Dec.{T, ltb}
-use borrow.Author.Tests.{lt-ltb, le-ltb}
+use native.Mathlib.Decide.{ℕ-discrete}
+use lib.Dec.{T}
 use Rattle.state.proofs.Bools.{or-left, or-right, or-cases, and-both, and-left, and-right, is-true, is-false, fails, test}
-use Rattle.state.specs.Below.{eachBelow, countBelow, someBelow, firstBelow}
+use Rattle.state.specs.Below.{eachBelow, countBelow, someBelow, firstFrom, firstBelow}
 
 module _ (f : ℕ → Bool) where
   pub each-none : eachBelow 0 f ≡ true
@@ -178,36 +177,42 @@ module _ (f : ℕ → Bool) where
           record { place = found .place; below = omega arith; met = found .met }
       go before (inr m) = record { place = n; below = omega arith; met = m }
 
-  -- ---- the first number
-  pub first-none : (n : ℕ) → ((k : ℕ) → k < n → f k ≡ false) → firstBelow n f ≡ n
-  unfolding firstBelow
-  first-none zero none = refl
-  first-none (suc n) none =
-      rw (first-none n (λ k h. none k (omega arith)), le-ltb n n (omega arith), none n (omega arith)) refl
+  -- ---- the first number, of those from k on
+  from-none : (n k : ℕ) → ((m : ℕ) → k ≤ m → m < k + n → f m ≡ false) → firstFrom f n k ≡ k + n
+  unfolding firstFrom
+  from-none zero k none = omega arith
+  from-none (suc n) k none =
+      let later : firstFrom f n (k + 1) ≡ k + 1 + n = from-none n (k + 1) (λ m a b. none m (omega arith) (omega arith)) in
+      rw (none k (omega arith) (omega arith)) (omega arith)
 
-  pub first-is : (n k : ℕ) → k < n → f k ≡ true → ((m : ℕ) → m < k → f m ≡ false) → firstBelow n f ≡ k
-  unfolding firstBelow
-  first-is zero k h t none = absurd (not-suc-le-zero h)
-  first-is (suc n) k h t none = go (first-is n k) (ℕ-discrete k n)
+  from-is : (n k m : ℕ) → k ≤ m → m < k + n → f m ≡ true → ((j : ℕ) → k ≤ j → j < m → f j ≡ false) → firstFrom f n k ≡ m
+  unfolding firstFrom
+  from-is zero k m a b t none = absurd (omega arith)
+  from-is (suc n) k m a b t none = go (from-is n (k + 1) m) (ℕ-discrete k m)
     where
-      go : (k < n → f k ≡ true → ((m : ℕ) → m < k → f m ≡ false) → firstBelow n f ≡ k) → Dec (k ≡ n)
-          → cond (ltb (firstBelow n f) n) (firstBelow n f) (cond (f n) n (suc n)) ≡ k
-      go before (yes e) =
-          let met : f n ≡ true = rw e at t in
-          rw (first-none n (λ m hm. none m (omega arith)), le-ltb n n (omega arith), met) (sym e)
-      go before (no ne) =
-          let here : k < n = omega arith in
-          rw (before here t none, lt-ltb k n here) refl
+      go : (k + 1 ≤ m → m < k + 1 + n → f m ≡ true → ((j : ℕ) → k + 1 ≤ j → j < m → f j ≡ false) → firstFrom f n (k + 1) ≡ m)
+          → Dec (k ≡ m) → cond (f k) k (firstFrom f n (k + 1)) ≡ m
+      go later (yes e) = let met : f k ≡ true = rw e t in rw met e
+      go later (no ne) = rw (none k (omega arith) (omega arith)) (later (omega arith) (omega arith) t (λ j c d. none j (omega arith) d))
 
-  pub first-met : (n : ℕ) → firstBelow n f < n → f (firstBelow n f) ≡ true
-  unfolding firstBelow
-  first-met zero h = absurd (not-suc-le-zero h)
-  first-met (suc n) h = go (first-met n) (decLt (firstBelow n f) n) (test (f n)) h
+  from-met : (n k : ℕ) → firstFrom f n k < k + n → f (firstFrom f n k) ≡ true
+  unfolding firstFrom
+  from-met zero k h = absurd (omega arith)
+  from-met (suc n) k h = go (from-met n (k + 1)) (test (f k)) h
     where
       first : ℕ
-      first = cond (ltb (firstBelow n f) n) (firstBelow n f) (cond (f n) n (suc n))
+      first = cond (f k) k (firstFrom f n (k + 1))
 
-      go : (firstBelow n f < n → f (firstBelow n f) ≡ true) → Dec (firstBelow n f < n) → T (f n) ⊎ (f n ≡ false) → first < suc n → f first ≡ true
-      go before (yes b) s h = rw (lt-ltb _ _ b) (before b)
-      go before (no b) (inl t) h = rw (le-ltb (firstBelow n f) n (omega arith), is-true (f n) t) (is-true (f n) t)
-      go before (no b) (inr e) h = absurd (omega (arith, rw (le-ltb (firstBelow n f) n (omega arith), e) at h))
+      go : (firstFrom f n (k + 1) < k + 1 + n → f (firstFrom f n (k + 1)) ≡ true) → T (f k) ⊎ (f k ≡ false) → first < k + suc n → f first ≡ true
+      go later (inl t) h = rw (is-true (f k) t) (is-true (f k) t)
+      go later (inr e) h = let l : firstFrom f n (k + 1) < k + suc n = rw e at h in rw e (later (omega arith))
+
+  -- and of those below n
+  pub first-none : (n : ℕ) → ((k : ℕ) → k < n → f k ≡ false) → firstBelow n f ≡ n
+  first-none n none = from-none n 0 (λ m a b. none m (omega arith)) ∙ omega arith
+
+  pub first-is : (n k : ℕ) → k < n → f k ≡ true → ((m : ℕ) → m < k → f m ≡ false) → firstBelow n f ≡ k
+  first-is n k h t none = from-is n 0 k (omega arith) (omega arith) t (λ j a b. none j b)
+
+  pub first-met : (n : ℕ) → firstBelow n f < n → f (firstBelow n f) ≡ true
+  first-met n h = from-met n 0 (omega arith)

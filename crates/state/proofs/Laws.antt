@@ -416,12 +416,12 @@ founding-no-pair export i j ne = no-pair 2048 i j
 counted : (cells : List Bool) (n : ℕ) → length cells ≡ n → n ≤ 2048 → count cells ≤ 2048
 counted cells n size h = let most : count cells ≤ length cells = count-within cells in omega arith
 
-pub counts-within : Laws.CountsWithin
-counts-within s shaped zero = counted (s .users) 32 (shaped .sets user) (omega arith)
-counts-within s shaped (suc zero) = counted (s .areas) 32 (shaped .sets area) (omega arith)
-counts-within s shaped (suc (suc zero)) = counted (s .objects) 64 (shaped .sets object) (omega arith)
-counts-within s shaped (suc (suc (suc zero))) = counted (s .owners) 1024 (shaped .relations owner) (omega arith)
-counts-within s shaped (suc (suc (suc (suc zero)))) = counted (s .structure) 1024 (shaped .relations structure) (omega arith)
-counts-within s shaped (suc (suc (suc (suc (suc zero))))) = counted (s .imports) 2048 (shaped .relations import) (omega arith)
-counts-within s shaped (suc (suc (suc (suc (suc (suc zero)))))) = counted (s .exports) 2048 (shaped .relations export) (omega arith)
-counts-within s shaped (suc (suc (suc (suc (suc (suc (suc i))))))) = omega arith
+pub counts-at-most : Laws.CountsAtMost
+counts-at-most s shaped zero = counted (s .users) 32 (shaped .sets user) (omega arith)
+counts-at-most s shaped (suc zero) = counted (s .areas) 32 (shaped .sets area) (omega arith)
+counts-at-most s shaped (suc (suc zero)) = counted (s .objects) 64 (shaped .sets object) (omega arith)
+counts-at-most s shaped (suc (suc (suc zero))) = counted (s .owners) 1024 (shaped .relations owner) (omega arith)
+counts-at-most s shaped (suc (suc (suc (suc zero)))) = counted (s .structure) 1024 (shaped .relations structure) (omega arith)
+counts-at-most s shaped (suc (suc (suc (suc (suc zero))))) = counted (s .imports) 2048 (shaped .relations import) (omega arith)
+counts-at-most s shaped (suc (suc (suc (suc (suc (suc zero)))))) = counted (s .exports) 2048 (shaped .relations export) (omega arith)
+counts-at-most s shaped (suc (suc (suc (suc (suc (suc (suc i))))))) = omega arith

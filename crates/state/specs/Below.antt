@@ -1,7 +1,6 @@
 -- Tests of the numbers below a bound: whether each meets one, how many do, whether some does, and which is the first.
 use Prim.Native.Nat.{ℕ, zero, suc, _+_}
 use mathlib.Core.Bool.{Bool, true, false, _&&_, _||_, cond}
-use lib.Dec.{ltb}
 
 -- each number below n meets the test
 unfoldable pub eachBelow : ℕ → (ℕ → Bool) → Bool
@@ -18,7 +17,11 @@ unfoldable pub someBelow : ℕ → (ℕ → Bool) → Bool
 someBelow zero test = false
 someBelow (suc n) test = someBelow n test || test n
 
+-- the first of the n numbers from k on that meets the test, and the number behind them if none does
+unfoldable pub firstFrom : (ℕ → Bool) → (n k : ℕ) → ℕ
+firstFrom test zero k = k
+firstFrom test (suc n) k = cond (test k) k (firstFrom test n (k + 1))
+
 -- the first number below n that meets the test, n if none does
-unfoldable pub firstBelow : ℕ → (ℕ → Bool) → ℕ
-firstBelow zero test = 0
-firstBelow (suc n) test = cond (ltb (firstBelow n test) n) (firstBelow n test) (cond (test n) n (suc n))
+abbrev pub firstBelow : ℕ → (ℕ → Bool) → ℕ
+firstBelow n test = firstFrom test n 0

@@ -1,5 +1,6 @@
--- What is claimed of the readings and updates: reading after writing the same place, another place, another field; what lies outside; and that
--- two records with equal readings are equal. Each claim is a type, which proofs/Laws.antt inhabits under the claim's name.
+-- What is claimed of the readings and updates: reading after writing the same place, another place, another field; what
+-- lies outside; and that two records with equal readings are equal. Each claim is a type, which proofs/Laws.antt
+-- inhabits under the claim's name.
 use Prim.Native.Nat.{ℕ, _+_, _*_, _≤_, _<_}
 use mathlib.Core.Path.{_≡_}
 use mathlib.Core.Bool.{Bool, true, false, _&&_}
@@ -8,7 +9,8 @@ use lib.Dec.{T, eqb}
 use lib.ListN.{length, getD}
 use Rattle.state.specs.Cells.{Members, Pairs, width, member, pair, put}
 use Rattle.state.specs.Walk.{someMember, eachMember, somePair, eachPair, hasFirst, hasSecond}
-use Rattle.state.specs.Site.{Kind, user, area, object, limit, listed, withListed, Relation, owner, firstKind, related, withPair, empty, founding, counts, Shaped}
+use Rattle.state.specs.Site.{Kind, user, area, object, limit, listed, withListed, Relation, owner, firstKind}
+use Rattle.state.specs.Site.{related, withPair, empty, founding, counts, Shaped}
 use Rattle.state.specs.declared.State.{State}
 
 -- ---- a written number
@@ -19,58 +21,79 @@ abbrev pub ListedOther : Type 0
 ListedOther = (s : State) (k : Kind) (i n : ℕ) (v : Bool) → (n ≡ i → ⊥) → listed (withListed s k i v) k n ≡ listed s k n
 
 abbrev pub ListedOtherKind : Type 0
-ListedOtherKind = (s : State) (k l : Kind) (i n : ℕ) (v : Bool) → (l ≡ k → ⊥) → listed (withListed s k i v) l n ≡ listed s l n
+ListedOtherKind =
+    (s : State) (k l : Kind) (i n : ℕ) (v : Bool) → (l ≡ k → ⊥) → listed (withListed s k i v) l n ≡ listed s l n
 
 -- a number is the written one, or is listed as before
 abbrev pub ListedElse : Type 0
-ListedElse = (s : State) (k l : Kind) (i n : ℕ) (v : Bool) → ((l ≡ k) × (n ≡ i)) ⊎ (listed (withListed s k i v) l n ≡ listed s l n)
+ListedElse =
+    (s : State) (k l : Kind) (i n : ℕ) (v : Bool) → ((l ≡ k) × (n ≡ i))
+    ⊎ (listed (withListed s k i v) l n ≡ listed s l n)
 
--- a listed number is one number more, and an unlisted one is one fewer
+-- listing a number unlists none
 abbrev pub ListKeepsListed : Type 0
 ListKeepsListed = (s : State) (k l : Kind) (i n : ℕ) → T (listed s l n) → T (listed (withListed s k i true) l n)
 
+-- unlisting a number lists none
 abbrev pub UnlistAddsNone : Type 0
 UnlistAddsNone = (s : State) (k l : Kind) (i n : ℕ) → T (listed (withListed s k i false) l n) → T (listed s l n)
 
--- and is itself no longer listed
+-- a number that was unlisted is not listed
 abbrev pub UnlistedGone : Type 0
 UnlistedGone = (s : State) (k : Kind) (i : ℕ) → Shaped s → T (listed (withListed s k i false) k i) → ⊥
 
+-- the pairs do not depend on the lists
 abbrev pub ListKeepsPairs : Type 0
-ListKeepsPairs = (s : State) (k : Kind) (i : ℕ) (v : Bool) (r : Relation) (m n : ℕ) → related (withListed s k i v) r m n ≡ related s r m n
+ListKeepsPairs =
+    (s : State) (k : Kind) (i : ℕ) (v : Bool) (r : Relation) (m n : ℕ)
+    → related (withListed s k i v) r m n ≡ related s r m n
 
 -- ---- a written pair
 abbrev pub RelatedSame : Type 0
-RelatedSame = (s : State) (r : Relation) (i j : ℕ) (v : Bool) → Shaped s → i < limit (firstKind r) → j < limit area → related (withPair s r i j v) r i j ≡ v
+RelatedSame =
+    (s : State) (r : Relation) (i j : ℕ) (v : Bool) → Shaped s → i < limit (firstKind r) → j < limit area
+    → related (withPair s r i j v) r i j ≡ v
 
 abbrev pub RelatedOther : Type 0
-RelatedOther = (s : State) (r : Relation) (i j m n : ℕ) (v : Bool) → (m ≡ i → n ≡ j → ⊥) → related (withPair s r i j v) r m n ≡ related s r m n
+RelatedOther =
+    (s : State) (r : Relation) (i j m n : ℕ) (v : Bool) → (m ≡ i → n ≡ j → ⊥)
+    → related (withPair s r i j v) r m n ≡ related s r m n
 
 abbrev pub RelatedOtherRelation : Type 0
-RelatedOtherRelation = (s : State) (r t : Relation) (i j m n : ℕ) (v : Bool) → (t ≡ r → ⊥) → related (withPair s r i j v) t m n ≡ related s t m n
+RelatedOtherRelation =
+    (s : State) (r t : Relation) (i j m n : ℕ) (v : Bool) → (t ≡ r → ⊥)
+    → related (withPair s r i j v) t m n ≡ related s t m n
 
 -- a pair is the written one, or is there as before
 abbrev pub RelatedElse : Type 0
 RelatedElse =
-    (s : State) (r t : Relation) (i j m n : ℕ) (v : Bool) → ((t ≡ r) × (m ≡ i) × (n ≡ j)) ⊎ (related (withPair s r i j v) t m n ≡ related s t m n)
+    (s : State) (r t : Relation) (i j m n : ℕ) (v : Bool) → ((t ≡ r) × (m ≡ i) × (n ≡ j))
+    ⊎ (related (withPair s r i j v) t m n ≡ related s t m n)
 
+-- nor the lists on the pairs
 abbrev pub RelateKeepsLists : Type 0
-RelateKeepsLists = (s : State) (r : Relation) (i j : ℕ) (v : Bool) (k : Kind) (n : ℕ) → listed (withPair s r i j v) k n ≡ listed s k n
+RelateKeepsLists =
+    (s : State) (r : Relation) (i j : ℕ) (v : Bool) (k : Kind) (n : ℕ) → listed (withPair s r i j v) k n ≡ listed s k n
 
--- an added pair is one pair more, and a removed one is one fewer
+-- adding a pair removes none
 abbrev pub AddKeepsPairs : Type 0
-AddKeepsPairs = (s : State) (r t : Relation) (i j m n : ℕ) → T (related s t m n) → T (related (withPair s r i j true) t m n)
+AddKeepsPairs =
+    (s : State) (r t : Relation) (i j m n : ℕ) → T (related s t m n) → T (related (withPair s r i j true) t m n)
 
+-- removing a pair adds none
 abbrev pub RemoveAddsNone : Type 0
-RemoveAddsNone = (s : State) (r t : Relation) (i j m n : ℕ) → T (related (withPair s r i j false) t m n) → T (related s t m n)
+RemoveAddsNone =
+    (s : State) (r t : Relation) (i j m n : ℕ) → T (related (withPair s r i j false) t m n) → T (related s t m n)
 
--- and is itself no longer there, while another pair than the one that is written stays
+-- a pair that was removed is not there
 abbrev pub RemovedGone : Type 0
 RemovedGone = (s : State) (r : Relation) (i j : ℕ) → Shaped s → T (related (withPair s r i j false) r i j) → ⊥
 
+-- another pair than the one that is written stays
 abbrev pub OthersStay : Type 0
 OthersStay =
-    (s : State) (r t : Relation) (i j m n : ℕ) (v : Bool) → (t ≡ r → m ≡ i → n ≡ j → ⊥) → T (related s t m n) → T (related (withPair s r i j v) t m n)
+    (s : State) (r t : Relation) (i j m n : ℕ) (v : Bool) → (t ≡ r → m ≡ i → n ≡ j → ⊥) → T (related s t m n)
+    → T (related (withPair s r i j v) t m n)
 
 -- ---- a pair put into the cells of a relation by itself, for what fills one before there is a record
 abbrev pub PutSame : Type 0
@@ -125,7 +148,8 @@ abbrev pub ListedInside : Type 0
 ListedInside = (s : State) (k : Kind) (i : ℕ) → Shaped s → T (listed s k i) → i < limit k
 
 abbrev pub RelatedInside : Type 0
-RelatedInside = (s : State) (r : Relation) (i j : ℕ) → Shaped s → T (related s r i j) → (i < limit (firstKind r)) × (j < limit area)
+RelatedInside =
+    (s : State) (r : Relation) (i j : ℕ) → Shaped s → T (related s r i j) → (i < limit (firstKind r)) × (j < limit area)
 
 -- ---- what lies outside is not there, and writing it changes nothing
 abbrev pub ListedOutside : Type 0
@@ -135,10 +159,14 @@ abbrev pub ListOutside : Type 0
 ListOutside = (s : State) (k : Kind) (i : ℕ) (v : Bool) → Shaped s → limit k ≤ i → withListed s k i v ≡ s
 
 abbrev pub RelatedOutside : Type 0
-RelatedOutside = (s : State) (r : Relation) (i j : ℕ) → Shaped s → (limit (firstKind r) ≤ i) ⊎ (limit area ≤ j) → related s r i j ≡ false
+RelatedOutside =
+    (s : State) (r : Relation) (i j : ℕ) → Shaped s → (limit (firstKind r) ≤ i) ⊎ (limit area ≤ j)
+    → related s r i j ≡ false
 
 abbrev pub RelateOutside : Type 0
-RelateOutside = (s : State) (r : Relation) (i j : ℕ) (v : Bool) → Shaped s → (limit (firstKind r) ≤ i) ⊎ (limit area ≤ j) → withPair s r i j v ≡ s
+RelateOutside =
+    (s : State) (r : Relation) (i j : ℕ) (v : Bool) → Shaped s → (limit (firstKind r) ≤ i) ⊎ (limit area ≤ j)
+    → withPair s r i j v ≡ s
 
 -- ---- the empty record
 abbrev pub EmptyRelated : Type 0
@@ -147,7 +175,9 @@ EmptyRelated = (r : Relation) (i j : ℕ) → related empty r i j ≡ false
 -- ---- the founding state
 -- "user 0 owns area 0", and nothing else is there
 abbrev pub FoundingListed : Type 0
-FoundingListed = (i : ℕ) → (listed founding user i ≡ eqb i 0) × (listed founding area i ≡ eqb i 0) × (listed founding object i ≡ false)
+FoundingListed =
+    (i : ℕ)
+    → (listed founding user i ≡ eqb i 0) × (listed founding area i ≡ eqb i 0) × (listed founding object i ≡ false)
 
 abbrev pub FoundingOwner : Type 0
 FoundingOwner = (i j : ℕ) → related founding owner i j ≡ (eqb i 0 && eqb j 0)
@@ -160,7 +190,8 @@ FoundingNoPair = (r : Relation) (i j : ℕ) → (r ≡ owner → ⊥) → relate
 abbrev pub ShapedByLengths : Type 0
 ShapedByLengths =
     (s : State)
-    → length (s .users) ≡ 32 → length (s .areas) ≡ 32 → length (s .objects) ≡ 64 → length (s .owners) ≡ 1024 → length (s .definitions) ≡ 2048
+    → length (s .users) ≡ 32 → length (s .areas) ≡ 32 → length (s .objects) ≡ 64 → length (s .owners) ≡ 1024
+    → length (s .definitions) ≡ 2048
     → length (s .structure) ≡ 1024 → length (s .imports) ≡ 2048 → length (s .exports) ≡ 2048 → Shaped s
 
 abbrev pub EmptyShaped : Type 0
@@ -184,5 +215,5 @@ abbrev pub OneRecord : Type 0
 OneRecord = (s t : State) → Shaped s → Shaped t → SameReadings s t → s ≡ t
 
 -- ---- no count is above 2,048, the places of the largest relation
-abbrev pub CountsWithin : Type 0
-CountsWithin = (s : State) → Shaped s → (i : ℕ) → getD (counts s) i 0 ≤ 2048
+abbrev pub CountsAtMost : Type 0
+CountsAtMost = (s : State) → Shaped s → (i : ℕ) → getD (counts s) i 0 ≤ 2048

@@ -1,4 +1,5 @@
--- The record of a site (document 01, 'The state'): "A state has three sets of listed users, areas and objects, and five relations".
+-- The record of a site (document 01, 'The state'): "A state has three sets of listed users, areas and objects, and five
+-- relations".
 --     Kind, limit, listed, withListed             the three sets
 --     Relation, firstKind, related, withPair      the five relations
 --     owns, defines, inside, imports, exports     the relations by the paper's words
@@ -19,7 +20,16 @@ use Rattle.state.specs.declared.State.{State}
 -- the record of three sets and five relations
 abbrev pub recordOf : (users areas objects : Members) (owners definitions structures imported exported : Pairs) → State
 recordOf users areas objects owners definitions structures imported exported =
-    record { users = users; areas = areas; objects = objects; owners = owners; definitions = definitions; structure = structures; imports = imported; exports = exported }
+    record {
+      users = users;
+      areas = areas;
+      objects = objects;
+      owners = owners;
+      definitions = definitions;
+      structure = structures;
+      imports = imported;
+      exports = exported;
+    }
 
 -- "listed users, areas and objects"
 pub data Kind : Type 0 where
@@ -64,7 +74,8 @@ withListed s k i v =
       exports = s .exports;
     }
 
--- "owner pairs (user, area); definition pairs (object, area); structure pairs (inner area, outer area); import pairs and export pairs (object, area)"
+-- "owner pairs (user, area); definition pairs (object, area)", "structure pairs (inner area, outer area)", "import
+-- pairs and export pairs (object, area)"
 pub data Relation : Type 0 where
   owner definition structure import export : Relation
 
@@ -136,7 +147,16 @@ exports s o a = related s export o a
 -- no number listed, no pair
 unfoldable pub empty : State
 empty =
-    record { users = replicate 32 false; areas = replicate 32 false; objects = replicate 64 false; owners = replicate 1024 false; definitions = replicate 2048 false; structure = replicate 1024 false; imports = replicate 2048 false; exports = replicate 2048 false }
+    record {
+      users = replicate 32 false;
+      areas = replicate 32 false;
+      objects = replicate 64 false;
+      owners = replicate 1024 false;
+      definitions = replicate 2048 false;
+      structure = replicate 1024 false;
+      imports = replicate 2048 false;
+      exports = replicate 2048 false;
+    }
 
 -- "In the founding state user 0 owns area 0; its 2,048 import places and 2,048 export places are all empty"
 unfoldable pub founding : State
@@ -154,8 +174,8 @@ counts s =
     ∷ count (cells s export)
     ∷ []
 
--- Every set and every relation has its number of cells. The type of the record in the code says so; the lists that stand for its arrays here do not,
--- so the laws that need it ask for it.
+-- Every set and every relation has its number of cells. The type of the record in the code says so; the lists that
+-- stand for its arrays here do not, so the laws that need it ask for it.
 pub record Shaped (s : State) : Type 0 where
   pub sets : (k : Kind) → length (members s k) ≡ limit k
   pub relations : (r : Relation) → length (cells s r) ≡ limit (firstKind r) * width

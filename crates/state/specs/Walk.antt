@@ -1,5 +1,5 @@
--- Whether some, or each, of what a set or a relation holds meets a test. The walk goes along the cells once and asks only at those that are set, so
--- that the checker can compute it on a whole record.
+-- Whether some, or each, of what a set or a relation holds meets a test. The walk goes along the cells once and asks
+-- only at those that are set, so that the checker can compute it on a whole record.
 --     someMember, eachMember     of the numbers of a set
 --     somePair, eachPair         of the pairs of a relation
 --     hasFirst, hasSecond        a pair with this first number, with this area
@@ -24,7 +24,7 @@ someMember cells test = someFrom 0 cells test
 abbrev pub eachMember : Members → (ℕ → Bool) → Bool
 eachMember cells test = not (someMember cells (λ i. not (test i)))
 
--- some pair of the relation meets the test
+-- some pair of the relation meets the test; cell k is that of the pair (k / 32, k % 32) (Laws, SomePair)
 unfoldable pub somePair : Pairs → (ℕ → ℕ → Bool) → Bool
 somePair cells test = someFrom 0 cells (λ k. test (k / width) (k % width))
 

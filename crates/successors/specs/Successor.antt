@@ -2,24 +2,28 @@
 use Prim.Native.Nat.{ℕ}
 use mathlib.Core.Bool.{Bool, true, false, _&&_}
 use Rattle.state.specs.Cells.{Members, Pairs, member}
-use Rattle.state.specs.Site.{user, area, object, withListed, Relation, owner, definition, structure, import, export, withPair}
+use Rattle.state.specs.Site.{user, area, object, withListed, Relation, owner, definition, structure, import, export}
+use Rattle.state.specs.Site.{withPair}
 use Rattle.state.specs.Walk.{hasFirst}
 use Rattle.state.specs.declared.State.{State}
-use Rattle.instructions.specs.Instructions.{Bytes, Target, theArea, pairOf, row, Picked, unknown, instruction, firstOf, secondOf}
+use Rattle.instructions.specs.Instructions.{Bytes, Target, theArea, pairOf, rule, firstNumber, secondNumber}
 use Rattle.instructions.specs.declared.Instruction.{Instruction}
+use Rattle.instructions.specs.declared.Decoded.{Decoded}
+use Rattle.instructions.specs.declared.Decoded.the-variants.{Fits, NoCode, OutOfRange}
 
 -- the state with (v true) or without (v false) the pair that a and b stand for
 abbrev pub withThePair : State → Relation → (a b : ℕ) → Bool → State
-withThePair s r a b v = withPair s r (firstOf r a b) (secondOf r a b) v
+withThePair s r a b v = withPair s r (firstNumber r a b) (secondNumber r a b) v
 
--- "Codes 2 and 4 unlist a user who owns no area afterwards": he is listed afterwards if he was and owns an area.
+-- "Codes 2 and 4 unlist a user who owns no area afterwards": he is listed if he was and owns an area by the owner pairs
+-- that are left
 abbrev pub keepsListed : (users : Members) (owners : Pairs) → ℕ → Bool
 keepsListed users owners u = member users u && hasFirst owners u
 
 abbrev pub unlistIdle : State → ℕ → State
 unlistIdle s u = withListed s user u (keepsListed (s .users) (s .owners) u)
 
--- user u no longer owns area a
+-- user u no longer owns area a: the pair goes first, and then he is looked up among those that are left
 abbrev pub withoutOwner : State → (u a : ℕ) → State
 withoutOwner s u a = unlistIdle (withPair s owner u a false) u
 
@@ -38,9 +42,10 @@ changed s (pairOf export) v u a b = withThePair s export a b v
 
 -- "the state it would give"
 abbrev pub successor : State → Instruction → (u a b : ℕ) → State
-successor s x u a b = changed s (row x .target) (row x .adds) u a b
+successor s x u a b = changed s (rule x .target) (rule x .adds) u a b
 
--- the same for four bytes; those that fit no instruction change nothing
-abbrev pub successorOf : State → Bytes → Picked → State
-successorOf s bytes unknown = s
-successorOf s bytes (instruction x) = successor s x (bytes .activator) (bytes .a) (bytes .b)
+-- the same for four bytes, by what they fit; those that fit no instruction change nothing
+abbrev pub successorOf : State → Bytes → Decoded → State
+successorOf s bytes (Fits x) = successor s x (bytes .activator) (bytes .a) (bytes .b)
+successorOf s bytes NoCode = s
+successorOf s bytes OutOfRange = s

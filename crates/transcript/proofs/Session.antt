@@ -12,11 +12,11 @@ use Rattle.state.specs.Site.{founding}
 use Rattle.state.specs.declared.State.{State}
 use Rattle.machine.specs.declared.Outcome.{Outcome}
 use Rattle.lines.specs.Lines.{linesOf, firstLineOf}
-use Rattle.lines.specs.Claims.{Sized}
+use Rattle.lines.specs.Laws.{Sized}
 use Rattle.lines.specs.declared.First.{First}
 use Rattle.lines.specs.declared.Line.{Line}
 use Rattle.lines.proofs.Laws.{no-line, first-line, first-size}
-use Rattle.sessions.specs.Session.{obeyed, resultsFrom, stateAfter, resultsOf, stateOf}
+use Rattle.sessions.specs.Session.{obeyed, resultsFrom, stateAfter, sessionResults, sessionState}
 use Rattle.transcript.specs.Placing.{Told}
 
 -- ---- the loop: after so many lines, which end at `at`, the rest is still to be obeyed from state s; there are n places for results
@@ -25,11 +25,11 @@ pub record Reached (n : ℕ) (input results : List ℕ) (lines at : ℕ) (s : St
   pub room : length input ≤ n
   pub within : at ≤ length input
   pub fewer : lines ≤ at
-  pub told : resultsOf input ≡ take lines results ++ resultsFrom s (linesOf (drop at input))
-  pub after : stateOf input ≡ stateAfter s (linesOf (drop at input))
+  pub told : sessionResults input ≡ take lines results ++ resultsFrom s (linesOf (drop at input))
+  pub after : sessionState input ≡ stateAfter s (linesOf (drop at input))
 
 pub reached-none : (input results : List ℕ) (s : State) → s ≡ founding → length input ≤ length results → Reached (length results) input results 0 0 s
-unfolding resultsOf stateOf
+unfolding sessionResults sessionState
 reached-none input results s e room = rw e (record { long = refl; room = room; within = omega arith; fewer = omega arith; told = refl; after = refl })
 
 -- a part of the input from a place on, as the loop takes it

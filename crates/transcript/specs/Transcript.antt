@@ -1,4 +1,5 @@
--- What PanelRights prints for an input (document 01, 'The program PanelRights'), and what becomes of the buffer that it is written into.
+-- What PanelRights prints for an input (document 01, 'The program PanelRights'), and what becomes of the buffer that it
+-- is written into.
 use Prim.Native.Nat.{ℕ, _+_}
 use mathlib.Core.Bool.{Bool, cond}
 use mathlib.Core.List.{List, [], _∷_, _++_}
@@ -7,7 +8,7 @@ use lib.ListN.{length, drop}
 use Rattle.state.specs.Site.{counts}
 use Rattle.lines.specs.Decimal.{decimal}
 use Rattle.lines.specs.Lines.{newline, space}
-use Rattle.sessions.specs.Session.{resultsOf, stateOf}
+use Rattle.sessions.specs.Session.{sessionResults, sessionState}
 use Rattle.transcript.specs.declared.Written.{Written}
 
 -- "the line's number from 1, a space, and 0 or the refusal. .. Each printed line ends with byte 10."
@@ -49,7 +50,7 @@ tooLong = 116 ∷ 111 ∷ 111 ∷ space ∷ 108 ∷ 111 ∷ 110 ∷ 103 ∷ newl
 
 -- what is printed for the input
 unfoldable pub transcriptOf : (input : List ℕ) → List ℕ
-transcriptOf input = cond (isTooLong input) tooLong (sessionText (resultsOf input) (counts (stateOf input)))
+transcriptOf input = cond (isTooLong input) tooLong (sessionText (sessionResults input) (counts (sessionState input)))
 
 -- no transcript has more bytes (Claims, PrintedAtMost): 65,536 lines of at most 9, and a state line of at most 41
 abbrev pub mostPrinted : ℕ

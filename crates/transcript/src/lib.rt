@@ -4,7 +4,8 @@ ghost use mathlib.Core.List.{[], _∷_};
 ghost use Prim.Native.Nat.{_+_, _≤_};
 ghost use lib.ListN.{length, set};
 ghost use Rattle.lines.specs.Decimal.{decimal};
-ghost use Rattle.transcript.specs.Transcript.{resultLine, resultLines, spaced, stateLine, sessionText, transcriptOf, written, writtenOf, bufferOf};
+ghost use Rattle.transcript.specs.Transcript.{resultLine, resultLines, spaced, stateLine, sessionText};
+ghost use Rattle.transcript.specs.Transcript.{transcriptOf, written, writtenOf, bufferOf};
 ghost use Rattle.transcript.specs.Placing.{Told, Room, Placed};
 use lines::Line;
 use state::State;
@@ -36,7 +37,8 @@ fn store(out: &mut [u8], at: usize, byte: u8)
     }
 }
 
-// Writes the byte if the buffer goes so far, and answers the place behind it. The functions below do so with their texts: in a buffer of no bytes they only count.
+// Writes the byte if the buffer goes so far, and answers the place behind it. The functions below do so with their
+// texts: in a buffer of no bytes they only count.
 fn put(out: &mut [u8], at: usize, byte: u8) -> usize
     requires { ⌜ Room at (byte ∷ []) ⌝ }
     ensures { λ r. ⌜ Placed (byte ∷ []) at (now (out .entry)) r (now (out .exit)) ⌝ }
@@ -124,7 +126,8 @@ fn put_state(out: &mut [u8], at: usize, counts: &[usize]) -> usize
 // A session's results and counts.
 fn put_session(out: &mut [u8], results: &[u8], counts: &[usize]) -> usize
     requires { ⌜ Room 0 (sessionText (now results) (now counts)) ⌝ }
-    ensures { λ r. ⌜ Placed (sessionText (now (results .entry)) (now (counts .entry))) 0 (now (out .entry)) r (now (out .exit)) ⌝ }
+    ensures { λ r. ⌜ Placed (sessionText (now (results .entry)) (now (counts .entry))) 0 (now (out .entry)) r (now
+        (out .exit)) ⌝ }
 {
     let behind_lines = put_lines(out, 0, results);
     put_state(out, behind_lines, counts)
@@ -191,8 +194,10 @@ fn write_text(text: &[u8], output: &mut [u8]) -> Written
 // Writes a session's results and counts, or nothing where the buffer is too short: they are counted first.
 fn write_session(results: &[u8], counts: &[usize], output: &mut [u8]) -> Written
     requires { ⌜ Room 0 (sessionText (now results) (now counts)) ⌝ }
-    ensures written { λ r. ⌜ r ≡ writtenOf (sessionText (now (results .entry)) (now (counts .entry))) (now (output .entry)) ⌝ }
-    ensures buffer { λ _. ⌜ now (output .exit) ≡ bufferOf (sessionText (now (results .entry)) (now (counts .entry))) (now (output .entry)) ⌝ }
+    ensures written { λ r. ⌜ r ≡ writtenOf (sessionText (now (results .entry)) (now (counts .entry))) (now
+        (output .entry)) ⌝ }
+    ensures buffer { λ _. ⌜ now (output .exit) ≡ bufferOf (sessionText (now (results .entry)) (now (counts .entry)))
+        (now (output .entry)) ⌝ }
 {
     let mut none = [0u8; 0];
     let length = put_session(&mut none, results, counts);
@@ -222,7 +227,8 @@ pub fn write(input: &[u8], output: &mut [u8]) -> Written
     write_session(&results[0..lines], &counts, output)
 }
 
-// The same into a buffer that no transcript is too long for; the answer is how many bytes were written. `within` is what a caller needs for that part of the buffer.
+// The same into a buffer that no transcript is too long for; the answer is how many bytes were written. `within` is
+// what a caller needs for that part of the buffer.
 pub fn print(input: &[u8], output: &mut [u8; MOST_PRINTED]) -> usize
     ensures count { λ r. ⌜ r ≡ length (transcriptOf (now (input .entry))) ⌝ }
     ensures within { λ r. ⌜ r ≤ length (now (output .exit)) ⌝ }

@@ -1,3 +1,3 @@
--- What `is_valid` promises is a definition of `soundness` (Sound, Tests). Rows has what this crate's own functions
--- promise each other.
-pub mod Rows
+-- `validity::is_valid` promises `isValid` and `Valid`, definitions of `soundness`. Parts has what this crate's own
+-- functions promise each other.
+pub mod Parts

@@ -6,7 +6,7 @@ ghost use Rattle.state.specs.Below.{eachBelow};
 ghost use Rattle.rows.specs.Rows.{transpose};
 ghost use Rattle.soundness.specs.Sound.{Valid};
 ghost use Rattle.soundness.specs.Tests.{isValid};
-ghost use Rattle.validity.specs.Rows.{cellReached, objectReached, objectsReached};
+ghost use Rattle.validity.specs.Parts.{cellReached, objectReached, objectsReached};
 use state::State;
 
 // The count of an area that lacks access.
@@ -34,7 +34,8 @@ fn object_reached<'a>(
     object: u8,
 ) -> bool
     requires { ⌜ now transposed ≡ transpose (now structure) ⌝ }
-    ensures { λ r. ⌜ r ≡ objectReached (now (definitions .entry)) (now (structure .entry)) (now (imports .entry)) (now (exports .entry)) object ⌝ }
+    ensures { λ r. ⌜ r ≡ objectReached (now (definitions .entry)) (now (structure .entry)) (now (imports .entry)) (now
+        (exports .entry)) object ⌝ }
 {
     if !(rows::in_row(imports, object) | rows::in_row(exports, object)) {
         return true;
@@ -54,7 +55,8 @@ fn objects_reached<'a>(
     imports: &'a [bool],
     exports: &'a [bool],
 ) -> bool
-    ensures { λ r. ⌜ r ≡ objectsReached (now (definitions .entry)) (now (structure .entry)) (now (imports .entry)) (now (exports .entry)) ⌝ }
+    ensures { λ r. ⌜ r ≡ objectsReached (now (definitions .entry)) (now (structure .entry)) (now (imports .entry)) (now
+        (exports .entry)) ⌝ }
 {
     let transposed = rows::transposed(structure);
     for o in 0..State::OBJECTS {

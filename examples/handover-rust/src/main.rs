@@ -26,7 +26,7 @@ impl Site {
 
     /// The area with its label, if it has one.
     fn area(&self, area: u8) -> String {
-        match label(&self.file, area) {
+        match label(&self.file, area.into()) {
             Some(text) => format!("area {area} '{text}'"),
             None => format!("area {area}"),
         }
@@ -61,7 +61,7 @@ impl Site {
                 writeln!(out, "  table {object}, defined in {}", self.area(definer))?;
             }
             for area in self.state.areas() {
-                if let Ok(Some(steps)) = self.state.access(area, object) {
+                if let Ok(Some(steps)) = self.state.access(area.into(), object.into()) {
                     self.view(out, area, object, steps)?;
                 }
             }

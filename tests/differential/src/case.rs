@@ -17,8 +17,8 @@ pub enum Case<'a> {
     },
     Access {
         site: Cow<'a, Site>,
-        area: u8,
-        object: u8,
+        area: u32,
+        object: u32,
     },
     /// A list of instructions, one after the other, and what demand 3 says of it.
     List {
@@ -32,7 +32,7 @@ pub enum Case<'a> {
     },
     Label {
         file: Cow<'a, [u8]>,
-        area: u8,
+        area: u32,
     },
     Mark {
         marks: u8,
@@ -51,7 +51,7 @@ impl<'a> Case<'a> {
         }
     }
 
-    pub fn access(site: &'a Site, area: u8, object: u8) -> Case<'a> {
+    pub fn access(site: &'a Site, area: u32, object: u32) -> Case<'a> {
         Case::Access {
             site: Cow::Borrowed(site),
             area,
@@ -73,7 +73,7 @@ impl<'a> Case<'a> {
         }
     }
 
-    pub fn label(file: &'a [u8], area: u8) -> Case<'a> {
+    pub fn label(file: &'a [u8], area: u32) -> Case<'a> {
         Case::Label {
             file: Cow::Borrowed(file),
             area,

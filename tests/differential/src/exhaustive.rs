@@ -1,5 +1,5 @@
 //! Every sound state over users 0 and 1, areas 0 and 1 and object 0, with every instruction and access question over
-//! those numbers, the first number beyond them and the first beyond the limits.
+//! those numbers, the first number beyond them and the first beyond the limits; questions over those plus 256 too.
 
 use crate::case::Case;
 use crate::library;
@@ -104,8 +104,8 @@ fn every_instruction(site: &Site, seen: &mut Seen) {
 }
 
 fn every_question(site: &Site, seen: &mut Seen) {
-    for area in [0, 1, 2, 32] {
-        for object in [0, 1, 64] {
+    for area in [0, 1, 2, 32, 256, 257] {
+        for object in [0, 1, 64, 256] {
             seen.compare(&Case::access(site, area, object));
         }
     }

@@ -32,7 +32,7 @@ pub fn step(site: &Site, instruction: [u8; 4]) -> Answer {
     }
 }
 
-pub fn access(site: &Site, area: u8, object: u8) -> Answer {
+pub fn access(site: &Site, area: u32, object: u32) -> Answer {
     let steps = match &site.state {
         Some(state) => reference::access(state, area, object),
         None => Err(12),
@@ -55,11 +55,11 @@ pub fn read_file(file: &[u8], buffer_len: usize) -> Answer {
 }
 
 /// The place by the reference's label finder, the text by its reader.
-pub fn label(file: &[u8], area: u8) -> Answer {
+pub fn label(file: &[u8], area: u32) -> Answer {
     let (offset, length) = reference::label(file, area);
     let text = reference::read_file(file)
         .ok()
-        .and_then(|(_, labels)| labels.get(&area).cloned());
+        .and_then(|(_, labels)| labels.get(&u8::try_from(area).ok()?).cloned());
     Answer::new((offset * 65536 + length) as u32, text.unwrap_or_default())
 }
 

@@ -3,6 +3,7 @@
 use crate::byte_damage::BYTE_DAMAGES;
 use crate::case::Case;
 use crate::draft::{random_labels, random_text, Draft};
+use crate::numbers::widened;
 use crate::seen::Seen;
 use crate::shards::Plan;
 use crate::site::OTHER_LENGTHS;
@@ -34,12 +35,15 @@ pub fn run(plan: &Plan) -> (String, Seen) {
     seen.require("read", [31], 200);
     seen.require("table damage", 0..TABLE_DAMAGES.len() as u32, 200);
     seen.require("byte damage", 0..BYTE_DAMAGES.len() as u32, 200);
+    seen.require("label above 255", [0], 5000);
+    seen.require("labelled but for 256 or more", [0], 2000);
     let line = format!(
-        "{} files, answers 0, 21 to 29, 31: {:?}; {} labels asked for, {} found",
+        "{} files, answers 0, 21 to 29, 31: {:?}; {} labels asked for, {} found, {} for an area above 255",
         seen.total("read"),
         seen.each("read", [0].into_iter().chain(21..=29).chain([31])),
         seen.total("label"),
         seen.total("label") - seen.times("label", 0),
+        seen.total("label above 255"),
     );
     (line, seen)
 }
@@ -91,7 +95,7 @@ fn one_file(state: &State, labels: &Labels, chance: &mut Chance, seen: &mut Seen
     compare_file(&file, labels, chance, seen);
 }
 
-/// The reader, and the label finder: for every area in some files, for two in the others.
+/// The reader, and the label finder: for every area in some files, for two in the others; and for an area above 255.
 fn compare_file(file: &[u8], labels: &Labels, chance: &mut Chance, seen: &mut Seen) {
     let read = seen.compare(&Case::read(file, RECORD_BYTES));
     if read.is_some_and(|answer| answer.number == 0) {
@@ -102,11 +106,22 @@ fn compare_file(file: &[u8], labels: &Labels, chance: &mut Chance, seen: &mut Se
         );
     }
     let labelled: Vec<u8> = labels.keys().copied().chain([255]).collect();
-    let areas = match chance.once_in(12) {
+    let areas: Vec<u32> = match chance.once_in(12) {
         true => (0..=33).chain([255]).collect(),
-        false => vec![chance.below(33) as u8, chance.pick(&labelled)],
+        false => vec![chance.below(33) as u32, chance.pick(&labelled).into()],
     };
     for area in areas {
         seen.compare(&Case::label(file, area));
+    }
+    compare_label_above(file, widened(chance.pick(&labelled), 1, chance), seen);
+}
+
+/// The label finder for an area above 255.
+fn compare_label_above(file: &[u8], area: u32, seen: &mut Seen) {
+    if let Some(answer) = seen.compare(&Case::label(file, area)) {
+        seen.count("label above 255", answer.number);
+        if reference::label(file, area % 256) != (0, 0) {
+            seen.count("labelled but for 256 or more", answer.number);
+        }
     }
 }

@@ -81,7 +81,7 @@ pub fn is_sound(record: &[u8]) -> bool {
     step(record, NO_INSTRUCTION).number != 12
 }
 
-pub fn access(record: &[u8], area: u8, object: u8) -> Answer {
+pub fn access(record: &[u8], area: u32, object: u32) -> Answer {
     let mut buffer = Guarded::new(record);
     // SAFETY: so many bytes may be read there.
     let number = unsafe { sys::panelrights_access(buffer.pointer(), record.len(), area, object) };
@@ -100,7 +100,7 @@ pub fn read_file(file: &[u8], buffer_len: usize) -> Answer {
 }
 
 /// The bytes are the label's text.
-pub fn label(file: &[u8], area: u8) -> Answer {
+pub fn label(file: &[u8], area: u32) -> Answer {
     let mut lent = Guarded::new(file);
     // SAFETY: so many bytes may be read there.
     let number = unsafe { sys::panelrights_label(lent.pointer(), file.len(), area) };

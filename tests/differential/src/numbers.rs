@@ -35,6 +35,20 @@ pub fn pick_or(numbers: &[u8], limit: usize, once_in: usize, chance: &mut Chance
     chance.pick(numbers)
 }
 
+/// The number as it is, or one above 255: often so far above that it is the same again in 8 or 16 bits.
+pub fn widened(number: u8, once_in: usize, chance: &mut Chance) -> u32 {
+    let number = u32::from(number);
+    if !chance.once_in(once_in) {
+        return number;
+    }
+    match chance.below(4) {
+        0 => number + 256,
+        1 => number + 65_536,
+        2 => number + 256 * (1 + chance.below(0xff_ffff) as u32),
+        _ => 256 + chance.below(0xffff_ff00) as u32,
+    }
+}
+
 /// The numbers below the limit that are not in the list.
 pub fn free(list: &[u8], limit: usize) -> Vec<u8> {
     (0..limit as u8).filter(|number| !list.contains(number)).collect()

@@ -2,7 +2,7 @@
 
 use crate::case::Case;
 use crate::instructions::instruction_of_anyone;
-use crate::numbers::members;
+use crate::numbers::{members, widened};
 use crate::seen::Seen;
 use crate::shards::Plan;
 use crate::site::{Site, OTHER_LENGTHS};
@@ -67,13 +67,15 @@ pub fn run(plan: &Plan) -> (String, Seen) {
     });
     seen.require("step", 0..=12, 500);
     seen.require("access", (0..=31).chain([255, 258, 260, 268]), 10);
+    seen.require("listed but for 256 or more", [258], 500);
+    seen.require("question above 255", [258, 268], 500);
     seen.require("questioned states", [0], 500);
     for (code, answers) in ANSWERS {
         seen.require("code and answer", answers.iter().map(|answer| code * 100 + answer), 100);
     }
     let line = format!(
         "{} steps, answers 0 to 12: {:?}; {} access questions, all there are for {} states, \
-         answers 0 to 31: {:?}, no access: {}, refused 2, 4, 12: {:?}",
+         answers 0 to 31: {:?}, no access: {}, refused 2, 4, 12: {:?}; {} with a number above 255",
         seen.total("step"),
         seen.each("step", 0..=12),
         seen.total("access"),
@@ -81,6 +83,7 @@ pub fn run(plan: &Plan) -> (String, Seen) {
         seen.each("access", 0..=31),
         seen.times("access", 255),
         seen.each("access", [258, 260, 268]),
+        seen.total("question above 255"),
     );
     (line, seen)
 }
@@ -106,19 +109,38 @@ fn walk(start: State, steps: usize, chance: &mut Chance, seen: &mut Seen) {
     (0..QUESTIONS).for_each(|_| one_question(&site, chance, seen));
 }
 
-/// About a listed area and a listed object.
+/// About a listed area and a listed object, and about two numbers that differ from them above the low byte.
 fn one_question(site: &Site, chance: &mut Chance, seen: &mut Seen) {
     let Some(state) = &site.state else { return };
     let (areas, objects) = (members(&state.areas), members(&state.objects));
     if !areas.is_empty() && !objects.is_empty() {
-        seen.compare(&Case::access(site, chance.pick(&areas), chance.pick(&objects)));
+        let (area, object) = (chance.pick(&areas), chance.pick(&objects));
+        question(site, area.into(), object.into(), seen);
+        question(site, widened(area, 2, chance), widened(object, 2, chance), seen);
     }
 }
 
-/// One instruction and one access question about the same numbers.
-fn step_and_question(site: &Site, instruction: [u8; 4], seen: &mut Seen) {
+/// One instruction and one access question about the same numbers, at times put above 255.
+fn step_and_question(site: &Site, instruction: [u8; 4], chance: &mut Chance, seen: &mut Seen) {
     seen.compare(&Case::step(site, instruction));
-    seen.compare(&Case::access(site, instruction[2], instruction[3]));
+    let [_, _, area, object] = instruction;
+    question(site, widened(area, 8, chance), widened(object, 8, chance), seen);
+}
+
+fn question(site: &Site, area: u32, object: u32, seen: &mut Seen) {
+    let answer = seen.compare(&Case::access(site, area, object));
+    if let (Some(answer), true) = (answer, area > 255 || object > 255) {
+        seen.count("question above 255", answer.number);
+        if are_listed(site, area as u8, object as u8) {
+            seen.count("listed but for 256 or more", answer.number);
+        }
+    }
+}
+
+/// Are both numbers listed?
+fn are_listed(site: &Site, area: u8, object: u8) -> bool {
+    let listed = |state: &State| state.areas.contains(&area) && state.objects.contains(&object);
+    site.state.as_ref().is_some_and(listed)
 }
 
 /// A state that is mostly unsound.
@@ -132,7 +154,7 @@ fn turned_record(chance: &mut Chance, seen: &mut Seen) {
     };
     let state = turned(&sound_state(shape, chance), chance);
     let instruction = instruction_of_anyone(&state, chance);
-    step_and_question(&Site::of_state(state), instruction, seen);
+    step_and_question(&Site::of_state(state), instruction, chance, seen);
 }
 
 /// A sound record that goes on for too long, or ends too early.
@@ -141,7 +163,7 @@ fn missized_record(chance: &mut Chance, seen: &mut Seen) {
     let instruction = instruction_of_anyone(&state, chance);
     let length = chance.pick(&OTHER_LENGTHS);
     let record = reference::to_record(&state).into_iter().cycle().take(length).collect();
-    step_and_question(&Site::of_bytes(record), instruction, seen);
+    step_and_question(&Site::of_bytes(record), instruction, chance, seen);
 }
 
 /// One record with each of its places turned in turn, and then with a byte above 1 in each.
@@ -154,7 +176,7 @@ fn every_place(chance: &mut Chance, seen: &mut Seen) {
             let mut other = record.clone();
             other[place] = byte;
             let instruction = instruction_of_anyone(&state, chance);
-            step_and_question(&Site::of_bytes(other), instruction, seen);
+            step_and_question(&Site::of_bytes(other), instruction, chance, seen);
         }
     }
 }

@@ -8,7 +8,7 @@ use lib.ListN.{getD}
 use Rattle.state.specs.Cells.{Pairs}
 use Rattle.state.proofs.Laws.{pair-cell}
 use Rattle.state.proofs.Fill.{Filled, filled-none, filled-more, filled-all}
-use Rattle.access.specs.Lending.{moveBy}
+use Rattle.access.specs.Rounds.{moveBy}
 use Rattle.access.specs.Answer.{Areas, has}
 use Rattle.access.specs.Rounds.{joins, joinedWith}
 use Rattle.access.proofs.joined.Statement.{statement}

@@ -9,7 +9,7 @@ use native.Mathlib.Omega.{arith}
 use borrow.Author.Tests.{not-true}
 use lib.ListN.{length, replicate}
 use Rattle.state.proofs.Tabulate.{tabulate-is}
-use Rattle.access.specs.Lending.{moveBy}
+use Rattle.access.specs.Rounds.{moveBy}
 use Rattle.access.specs.Answer.{longest, Areas, has, reached, unreached, countsWithin}
 use Rattle.access.specs.Rounds.{nextTo, uncounted, countedAs, anyArea}
 use Rattle.access.proofs.Search.{layer, counts-start, layer-next, counts-next, no-new, counts-stay}

@@ -9,7 +9,7 @@ use lib.ListN.{length, getD, take, replicate}
 use lib.Seq.{take-all}
 use Rattle.state.proofs.Fill.{kept-none}
 use Rattle.state.proofs.Tabulate.{length-tabulate, getD-tabulate, tabulate-is}
-use Rattle.access.specs.Lending.{moveBy}
+use Rattle.access.specs.Rounds.{moveBy}
 use Rattle.access.specs.Answer.{Areas, has}
 use Rattle.access.specs.Rounds.{nextTo, joinedWith}
 use Rattle.state.proofs.Walk.{some-take-none, some-take-more}

@@ -11,7 +11,7 @@ use Rattle.state.specs.Cells.{Members, Pairs}
 use Rattle.state.specs.Below.{eachBelow}
 use Rattle.soundness.specs.Tests.{once, allDefined}
 use Rattle.state.proofs.Below.{each-none}
-use Rattle.inspection.proofs.Rows.{whereSet, set-goes, set-skips, set-stop, set-done, single-of-row}
+use Rattle.inspection.proofs.Parts.{whereSet, set-goes, set-skips, set-stop, set-done, single-of-row}
 use Rattle.inspection.proofs.all_defined.Statement.{statement}
 use Rattle.inspection.proofs.all_defined.Tie as tie
 

@@ -8,7 +8,7 @@ use borrow.Author.Tests.{not-true, not-false}
 use lib.ListN.{length}
 use Rattle.state.specs.Below.{eachBelow}
 use Rattle.state.proofs.Below.{each-none, each-goes, each-stop, each-done}
-use Rattle.inspection.proofs.Rows.{rowNamed, named-by-rows}
+use Rattle.inspection.proofs.Parts.{rowNamed, named-by-rows}
 use Rattle.inspection.proofs.all_named.Statement.{statement}
 use Rattle.inspection.proofs.all_named.Tie as tie
 

@@ -12,7 +12,7 @@ use Rattle.state.specs.Walk.{hasFirst}
 use Rattle.state.specs.Below.{eachBelow}
 use Rattle.soundness.specs.Tests.{allOwn}
 use Rattle.state.proofs.Below.{each-none}
-use Rattle.inspection.proofs.Rows.{whereSet, set-goes, set-skips, set-stop, set-done}
+use Rattle.inspection.proofs.Parts.{whereSet, set-goes, set-skips, set-stop, set-done}
 use Rattle.inspection.proofs.all_own.Statement.{statement}
 use Rattle.inspection.proofs.all_own.Tie as tie
 

@@ -3,8 +3,8 @@
 use mathlib.Core.Path.{ap, _∙_}
 use mathlib.Core.Bool.{_&&_}
 use denote.Ref.{now}
-use Rattle.soundness.specs.Tests.{allOwn, acceptableOf}
-use Rattle.inspection.proofs.Rows.{own-turned}
+use Rattle.soundness.specs.Tests.{allOwn}
+use Rattle.inspection.proofs.Parts.{own-turned}
 use Rattle.inspection.proofs.are_acceptable.Statement.{statement}
 use Rattle.inspection.proofs.are_acceptable.Tie as tie
 
@@ -21,7 +21,6 @@ all-defined-requires : tie.Need-all-defined-requires
 all-defined-requires c κs = tt
 
 returns : tie.Need-returns
-unfolding acceptableOf
 returns c =
     let start = c .before .before .before .before .before .before in
     let areas = start .args .areas in

@@ -2,7 +2,6 @@
 -- Assumes nothing.
 use mathlib.Core.Bool.{_&&_}
 use borrow.Author.Needs.{needs}
-use Rattle.soundness.specs.Tests.{consistentOf}
 use Rattle.inspection.proofs.are_consistent.Statement.{statement}
 use Rattle.inspection.proofs.are_consistent.Tie as tie
 
@@ -25,7 +24,6 @@ all-named-requires-5 : tie.Need-all-named-requires-5
 all-named-requires-5 c κs = c .before .before .before .before .before .before .before .before .before .before .before .before .pre .exports
 
 returns : tie.Need-returns
-unfolding consistentOf
 returns c =
     let owners = c .before .before .before .before .before .all-named .ensures in
     let definitions = c .before .before .before .before .all-named2 .ensures in

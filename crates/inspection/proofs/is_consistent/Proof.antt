@@ -6,7 +6,7 @@ use borrow.Author.Needs.{needs}
 use Rattle.state.specs.Site.{user, area, object, owner, definition, structure, import, export, Shaped}
 use Rattle.state.specs.declared.State.{State}
 use Rattle.state.proofs.Typed.{shaped-by-type}
-use Rattle.inspection.specs.Rows.{RowsFit}
+use Rattle.inspection.specs.Parts.{RowsFit}
 use Rattle.inspection.proofs.is_consistent.Statement.{statement}
 use Rattle.inspection.proofs.is_consistent.Tie as tie
 

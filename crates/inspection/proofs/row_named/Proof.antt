@@ -4,7 +4,7 @@ use Prim.Native.Nat.{_-_, _≤_}
 use mathlib.Core.Path.{_≡_, refl, sym}
 use native.Mathlib.Omega.{arith}
 use Rattle.state.specs.Below.{eachBelow}
-use Rattle.inspection.specs.Rows.{cellNamed}
+use Rattle.inspection.specs.Parts.{cellNamed}
 use Rattle.state.proofs.Below.{each-none, each-step, each-end}
 use Rattle.inspection.proofs.row_named.Statement.{statement}
 use Rattle.inspection.proofs.row_named.Tie as tie

@@ -1,30 +1,29 @@
 -- `instructions::decode` meets its contract. In an arm the code is its number, and in the last it is none of 0 to 12.
 -- Assumes nothing.
-use Prim.Native.Nat.{ℕ, zero, suc, _≤_, zero-le}
+use Prim.Native.Nat.{ℕ, suc, _≤_, zero-le}
 use mathlib.Core.Path.{_≡_, refl, sym, ap, _∙_}
-use mathlib.Core.List.{List, [], _∷_}
-use native.Mathlib.Nat.{not-suc-le-zero, le-of-suc-le-suc}
+use mathlib.Core.Logic.{inr}
 use native.Mathlib.Omega.{arith}
-use lib.ListN.{length}
-use Rattle.instructions.specs.Instructions.{fourBytes, unknown, instructions, pick, instructionOf}
-use Rattle.instructions.specs.Decode.{decodedAs, decodeOf}
-use Rattle.instructions.specs.declared.Instruction.{Instruction}
+use Rattle.state.specs.Checks.{firstMet}
+use Rattle.instructions.specs.Instructions.{Bytes, fourBytes, instructionOf}
+use Rattle.instructions.specs.Decode.{decodedAs, decodeOf, decodedNumber, misfits}
+use Rattle.instructions.specs.declared.Decoded.{Decoded}
+use Rattle.instructions.proofs.Laws.{decoded-by-table, no-code-exactly}
 use Rattle.instructions.proofs.decode.Statement.{statement}
 use Rattle.instructions.proofs.decode.Tie as tie
 
--- the code is n
-decoded-at : (n code u a b : ℕ) → code ≡ n → decodedAs (fourBytes code u a b) (instructionOf n) ≡ decodeOf (fourBytes code u a b)
-decoded-at n code u a b e = ap (λ (k : ℕ). decodedAs (fourBytes code u a b) (instructionOf k)) (sym e)
+abbrev bytes : tie.Start → Bytes
+bytes c = fourBytes (c .args .code) (c .args .activator) (c .args .a) (c .args .b)
 
--- nothing is picked past the end
-past : (l : List Instruction) (n : ℕ) → length l ≤ n → pick l n ≡ unknown
-past [] n h = refl
-past (x ∷ rest) zero h = absurd (not-suc-le-zero h)
-past (x ∷ rest) (suc n) h = past rest n (le-of-suc-le-suc h)
+-- both promises, from the equation
+promised : (c : tie.Start) (d : Decoded) → d ≡ decodeOf (bytes c)
+    → (d ≡ decodeOf (bytes c)) × (decodedNumber d ≡ firstMet (misfits (decodeOf (bytes c))))
+promised c d e = (e, decoded-by-table d ∙ ap (λ (k : Decoded). firstMet (misfits k)) e)
 
-no-code : (n : ℕ) → suc (length instructions) ≤ n → instructionOf n ≡ unknown
-no-code zero h = absurd (not-suc-le-zero h)
-no-code (suc n) h = past instructions n (le-of-suc-le-suc h)
+-- in the arm of code n
+picked : (c : tie.Start) (n : ℕ) {d : Decoded} → c .args .code ≡ n → d ≡ decodedAs (bytes c) (instructionOf n)
+    → (d ≡ decodeOf (bytes c)) × (decodedNumber d ≡ firstMet (misfits (decodeOf (bytes c))))
+picked c n e q = promised c _ (q ∙ ap (λ (k : ℕ). decodedAs (bytes c) (instructionOf k)) (sym e))
 
 up : (k n : ℕ) → k ≤ n → (n ≡ k → ⊥) → suc k ≤ n
 up k n h ne = omega arith
@@ -66,50 +65,50 @@ in-range-requires-12 : tie.Need-in-range-requires-12
 in-range-requires-12 c κs = tt
 
 returns : tie.Need-returns
-returns c = c .in-range .ensures ∙ decoded-at 1 _ _ _ _ (c .before .match .keys1)
+returns c = picked (c .before .before) 1 (c .before .match .keys1) (c .in-range .ensures)
 
 returns-2 : tie.Need-returns-2
-returns-2 c = c .in-range2 .ensures ∙ decoded-at 2 _ _ _ _ (c .before .match .keys2)
+returns-2 c = picked (c .before .before) 2 (c .before .match .keys2) (c .in-range2 .ensures)
 
 returns-3 : tie.Need-returns-3
-returns-3 c = c .in-range3 .ensures ∙ decoded-at 3 _ _ _ _ (c .before .match .keys3)
+returns-3 c = picked (c .before .before) 3 (c .before .match .keys3) (c .in-range3 .ensures)
 
 returns-4 : tie.Need-returns-4
-returns-4 c = c .in-range4 .ensures ∙ decoded-at 4 _ _ _ _ (c .before .match .keys4)
+returns-4 c = picked (c .before .before) 4 (c .before .match .keys4) (c .in-range4 .ensures)
 
 returns-5 : tie.Need-returns-5
-returns-5 c = c .in-range5 .ensures ∙ decoded-at 5 _ _ _ _ (c .before .match .keys5)
+returns-5 c = picked (c .before .before) 5 (c .before .match .keys5) (c .in-range5 .ensures)
 
 returns-6 : tie.Need-returns-6
-returns-6 c = c .in-range6 .ensures ∙ decoded-at 6 _ _ _ _ (c .before .match .keys6)
+returns-6 c = picked (c .before .before) 6 (c .before .match .keys6) (c .in-range6 .ensures)
 
 returns-7 : tie.Need-returns-7
-returns-7 c = c .in-range7 .ensures ∙ decoded-at 7 _ _ _ _ (c .before .match .keys7)
+returns-7 c = picked (c .before .before) 7 (c .before .match .keys7) (c .in-range7 .ensures)
 
 returns-8 : tie.Need-returns-8
-returns-8 c = c .in-range8 .ensures ∙ decoded-at 8 _ _ _ _ (c .before .match .keys8)
+returns-8 c = picked (c .before .before) 8 (c .before .match .keys8) (c .in-range8 .ensures)
 
 returns-9 : tie.Need-returns-9
-returns-9 c = c .in-range9 .ensures ∙ decoded-at 9 _ _ _ _ (c .before .match .keys9)
+returns-9 c = picked (c .before .before) 9 (c .before .match .keys9) (c .in-range9 .ensures)
 
 returns-10 : tie.Need-returns-10
-returns-10 c = c .in-range10 .ensures ∙ decoded-at 10 _ _ _ _ (c .before .match .keys10)
+returns-10 c = picked (c .before .before) 10 (c .before .match .keys10) (c .in-range10 .ensures)
 
 returns-11 : tie.Need-returns-11
-returns-11 c = c .in-range11 .ensures ∙ decoded-at 11 _ _ _ _ (c .before .match .keys11)
+returns-11 c = picked (c .before .before) 11 (c .before .match .keys11) (c .in-range11 .ensures)
 
 returns-12 : tie.Need-returns-12
-returns-12 c = c .in-range12 .ensures ∙ decoded-at 12 _ _ _ _ (c .before .match .keys12)
+returns-12 c = picked (c .before .before) 12 (c .before .match .keys12) (c .in-range12 .ensures)
 
 returns-13 : tie.Need-returns-13
-returns-13 c = decoded-at 0 _ _ _ _ (c .match .keys13)
+returns-13 c = picked (c .before) 0 (c .match .keys13) refl
 
 returns-14 : tie.Need-returns-14
 returns-14 c =
     let n = c .before .args .code in
     let none = c .match .rest in
-    ap (decodedAs (fourBytes n _ _ _))
-    (sym (no-code n (up 12 n (up 11 n (up 10 n (up 9 n (up 8 n (up 7 n (up 6 n (up 5 n (up 4 n (up 3 n (up 2 n (up 1 n (up 0 n zero-le (none .1)) (none .0 .0 .0 .0 .0 .0 .0 .0 .0 .0 .0 .0 .1)) (none .0 .0 .0 .0 .0 .0 .0 .0 .0 .0 .0 .1)) (none .0 .0 .0 .0 .0 .0 .0 .0 .0 .0 .1)) (none .0 .0 .0 .0 .0 .0 .0 .0 .0 .1)) (none .0 .0 .0 .0 .0 .0 .0 .0 .1)) (none .0 .0 .0 .0 .0 .0 .0 .1)) (none .0 .0 .0 .0 .0 .0 .1)) (none .0 .0 .0 .0 .0 .1)) (none .0 .0 .0 .0 .1)) (none .0 .0 .0 .1)) (none .0 .0 .1)) (none .0 .1))))
+    promised (c .before) _ (ap (decodedAs (bytes (c .before)))
+    (sym (no-code-exactly n .1 (inr (up 12 n (up 11 n (up 10 n (up 9 n (up 8 n (up 7 n (up 6 n (up 5 n (up 4 n (up 3 n (up 2 n (up 1 n (up 0 n zero-le (none .1)) (none .0 .0 .0 .0 .0 .0 .0 .0 .0 .0 .0 .0 .1)) (none .0 .0 .0 .0 .0 .0 .0 .0 .0 .0 .0 .1)) (none .0 .0 .0 .0 .0 .0 .0 .0 .0 .0 .1)) (none .0 .0 .0 .0 .0 .0 .0 .0 .0 .1)) (none .0 .0 .0 .0 .0 .0 .0 .0 .1)) (none .0 .0 .0 .0 .0 .0 .0 .1)) (none .0 .0 .0 .0 .0 .0 .1)) (none .0 .0 .0 .0 .0 .1)) (none .0 .0 .0 .0 .1)) (none .0 .0 .0 .1)) (none .0 .0 .1)) (none .0 .1))))))
 
 pub decode-spec : {M : Type 1} → statement M
 decode-spec =

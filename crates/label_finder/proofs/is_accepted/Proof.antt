@@ -4,12 +4,12 @@ use Prim.Native.Nat.{ℕ}
 use mathlib.Core.Path.{_≡_, ap}
 use mathlib.Core.List.{List}
 use lib.Dec.{eqb}
-use Rattle.site_file.specs.Reading.{refusalOf, readOf}
+use Rattle.site_file.specs.Reading.{fileRefusal, readOf}
 use Rattle.site_file.specs.declared.Reading.{Reading}
 use Rattle.label_finder.proofs.is_accepted.Statement.{statement}
 use Rattle.label_finder.proofs.is_accepted.Tie as tie
 
-refused : (file : List ℕ) {r : Reading} → r ≡ readOf file → eqb (r .refusal) 0 ≡ eqb (refusalOf file) 0
+refused : (file : List ℕ) {r : Reading} → r ≡ readOf file → eqb (r .refusal) 0 ≡ eqb (fileRefusal file) 0
 unfolding readOf
 refused file e = ap (λ (x : Reading). eqb (x .refusal) 0) e
 

@@ -10,7 +10,7 @@ use denote.Ref.{now}
 use lib.Dec.{eqb, ltb}
 use Rattle.label_tables.specs.Labels.{labelCount, labelLength, labelIndex}
 use Rattle.site_format.specs.Format.{AreBytes, labels, offsetIn, part}
-use Rattle.site_file.specs.Reading.{refusalOf}
+use Rattle.site_file.specs.Reading.{fileRefusal}
 use Rattle.label_finder.specs.Finder.{hasLabel, textAt, textLength, placeOf}
 use Rattle.state.proofs.Bools.{holds, fails}
 use Rattle.label_finder.proofs.Laws.{label-small}
@@ -20,10 +20,10 @@ use Rattle.label_finder.proofs.label_place.Tie as tie
 
 module _ (file : List ℕ) (a : ℕ) where
   -- what the tests say
-  refused : {told : Bool} → told ≡ eqb (refusalOf file) 0 → not told ≡ true → hasLabel file a ≡ false
+  refused : {told : Bool} → told ≡ eqb (fileRefusal file) 0 → not told ≡ true → hasLabel file a ≡ false
   refused {told} e n = ap (λ (b : Bool). b && ltb (labelIndex (part file labels) a) (labelCount (part file labels))) (sym e ∙ not-true told n)
 
-  entry : {told : Bool} {table : List ℕ} {k : ℕ} (v : Bool) → told ≡ eqb (refusalOf file) 0 → not told ≡ false → table ≡ part file labels → k ≡ labelIndex table a
+  entry : {told : Bool} {table : List ℕ} {k : ℕ} (v : Bool) → told ≡ eqb (fileRefusal file) 0 → not told ≡ false → table ≡ part file labels → k ≡ labelIndex table a
       → ltb k (labelCount table) ≡ v → hasLabel file a ≡ v
   entry {told} {table} v e n t i b =
       ap₂ _&&_ (sym e ∙ not-false told n) (ap (λ (l : List ℕ). ltb (labelIndex l a) (labelCount l)) (sym t) ∙ sym (ap (λ (m : ℕ). ltb m (labelCount table)) i) ∙ b)

@@ -9,7 +9,7 @@ use borrow.Author.Tests.{lt-ltb, le-ltb}
 use denote.Ref.{now}
 use Rattle.state.specs.Below.{eachBelow}
 use Rattle.state.proofs.Below.{each-none, each-step, each-end}
-use Rattle.label_tables.specs.Labels.{textFits}
+use Rattle.label_tables.specs.Texts.{textFits}
 use Rattle.label_tables.proofs.text_fits.Statement.{statement}
 use Rattle.label_tables.proofs.text_fits.Tie as tie
 

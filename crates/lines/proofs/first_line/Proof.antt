@@ -1,12 +1,22 @@
 -- `lines::first_line` meets its contract.
 -- Assumes nothing.
-use mathlib.Core.Path.{sym}
+use Prim.Native.Nat.{ℕ}
+use mathlib.Core.Path.{_≡_, sym, subst}
+use mathlib.Core.List.{List}
 use native.Mathlib.Nat.{sub-zero}
 use native.Mathlib.Numerals.{add-one}
 use native.Mathlib.Omega.{arith}
-use Rattle.lines.proofs.Ended.{first-ended, first-unended}
+use Rattle.lines.specs.Lines.{lineNumber, firstLineOf}
+use Rattle.lines.specs.Claims.{NumberOfFirst}
+use Rattle.lines.specs.declared.First.{First}
+use Rattle.lines.proofs.Ended.{first-ended, first-unended, first-line-number}
 use Rattle.lines.proofs.first_line.Statement.{statement}
 use Rattle.lines.proofs.first_line.Tie as tie
+
+-- the number is promised with the equation
+promised : (bytes : List ℕ) (r : First) → r ≡ firstLineOf bytes
+    → (r ≡ firstLineOf bytes) × NumberOfFirst bytes (lineNumber (r .line))
+promised bytes r e = (e, subst (λ (f : First). NumberOfFirst bytes (lineNumber (f .line))) (sym e) (first-line-number bytes))
 
 index-requires : tie.Need-index-requires
 index-requires c κs = tt
@@ -30,10 +40,11 @@ returns : tie.Need-returns
 returns c =
     let found = c .before .before in
     let i = found .before .index .result in
-    rw (c .read-line .ensures, sub-zero i, add-one i) (sym (first-ended _ _ (found .before .index .ensures) (found .if1 .taken)))
+    let ended = first-ended _ _ (found .before .index .ensures) (found .if1 .taken) in
+    promised _ _ (rw (c .read-line .ensures, sub-zero i, add-one i) (sym ended))
 
 returns-2 : tie.Need-returns-2
-returns-2 c = sym (first-unended _ _ (c .before .index .ensures) (c .if1 .left))
+returns-2 c = promised _ _ (sym (first-unended _ _ (c .before .index .ensures) (c .if1 .left)))
 
 pub first-line-spec : {M : Type 1} → statement M
 first-line-spec =

@@ -3,12 +3,12 @@
 use mathlib.Core.Path.{refl}
 use native.Mathlib.Omega.{arith}
 use Rattle.state.proofs.Bools.{holds}
-use Rattle.lines.specs.Claims.{Below}
+use Rattle.lines.specs.Claims.{AllBelow256}
 use Rattle.lines.proofs.Texts.{all-below}
 use Rattle.lines.proofs.line_by.Statement.{statement}
 use Rattle.lines.proofs.line_by.Tie as tie
 
-all : (c : tie.Then1) → let a = c .before .args in Below (a .code) (a .activator) (a .a) (a .b)
+all : (c : tie.Then1) → let a = c .before .args in AllBelow256 (a .code) (a .activator) (a .a) (a .b)
 all c = let a = c .before .args in all-below (a .code) (a .activator) (a .a) (a .b) (holds (c .if1 .taken))
 
 cast-t13 : tie.Need-cast-t13

@@ -6,7 +6,7 @@ use mathlib.Core.List.{_∷_}
 use native.Mathlib.Omega.{arith}
 use denote.Ref.{now}
 use lib.ListN.{take}
-use Rattle.lines.specs.Decimal.{number}
+use Rattle.lines.specs.Decimal.{wordNumber}
 use Rattle.lines.specs.Lines.{lineOf}
 use Rattle.lines.proofs.Texts.{numbersOf, text-whole, text-first, text-four}
 use Rattle.lines.proofs.read_line.Statement.{statement}
@@ -14,11 +14,11 @@ use Rattle.lines.proofs.read_line.Tie as tie
 
 -- the first number and the second, each with the text behind it
 first : (c : tie.After-behind) (n : ℕ) → let text = now (c .before .before .before .before .args .text) in
-    n ≡ number (take (c .before .before .index .result) text) → numbersOf text ≡ n ∷ numbersOf (now (c .behind .result))
+    n ≡ wordNumber (take (c .before .before .index .result) text) → numbersOf text ≡ n ∷ numbersOf (now (c .behind .result))
 first c n = text-first _ _ _ n (c .before .before .index .ensures) (c .before .if1 .left) (c .behind .ensures)
 
 second : (c : tie.After-behind2) (n : ℕ) → let text = now (c .before .before .before .behind .result) in
-    n ≡ number (take (c .before .before .index2 .result) text) → numbersOf text ≡ n ∷ numbersOf (now (c .behind2 .result))
+    n ≡ wordNumber (take (c .before .before .index2 .result) text) → numbersOf text ≡ n ∷ numbersOf (now (c .behind2 .result))
 second c n = text-first _ _ _ n (c .before .before .index2 .ensures) (c .before .if2 .left) (c .behind2 .ensures)
 
 index-requires : tie.Need-index-requires

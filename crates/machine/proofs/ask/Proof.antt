@@ -1,37 +1,69 @@
 -- `machine::ask` meets its contract: the first refusal that is met decides, and with none the access layer's answer is handed on.
 -- Assumes nothing.
-use Prim.Native.Nat.{ℕ}
+use Prim.Native.Nat.{ℕ, _<_}
 use mathlib.Core.Path.{_≡_, refl, sym, ap, _∙_}
-use mathlib.Core.Bool.{Bool, true, false, not}
+use mathlib.Core.Bool.{Bool, true, false, _&&_, not}
+use native.Mathlib.Omega.{arith}
+use borrow.Author.Tests.{ne-eqb}
+use lib.Dec.{ltb, ltb→lt}
 use Rattle.state.specs.Site.{object}
 use Rattle.state.specs.declared.State.{State}
 use Rattle.access.specs.Lending.{lending}
-use Rattle.access.specs.Answer.{answer}
+use Rattle.access.specs.Answer.{answer, answerNumber}
 use Rattle.access.specs.Claims.{Meaning}
 use Rattle.access.specs.declared.Answer.{Answer}
 use Rattle.soundness.specs.Tests.{isSound}
 use Rattle.instructions.specs.Instructions.{lookBoth}
 use Rattle.state.specs.Checks.{firstMet}
 use Rattle.refusals.specs.Refusals.{missing}
-use Rattle.machine.specs.Step.{questionRefusals, replied, replyOf, Replied}
+use Rattle.machine.specs.Step.{questionRefusals, replyOf, replyNumber, replyValue, AnswerMeans}
+use Rattle.machine.specs.declared.Reply.{Reply}
 use Rattle.machine.specs.declared.Reply.the-variants.{Refused, Answered}
+use Rattle.state.proofs.Bools.{so, and-left, and-right}
 use Rattle.state.proofs.Checks.{met, passed, none-met}
 use Rattle.machine.proofs.ask.Statement.{statement}
 use Rattle.machine.proofs.ask.Tie as tie
 
--- both promises of a refusal, from its number
-refusing : (s : State) (a b n : ℕ) → replied s a b n ≡ Refused n → firstMet (questionRefusals s a b) ≡ n → (Refused n ≡ replyOf s a b) × Replied s a b (Refused n)
+-- what is promised of a reply
+abbrev Promised : State → (a b : ℕ) → Reply → Type 0
+Promised s a b r =
+    (r ≡ replyOf s a b) × ((replyNumber r ≡ firstMet (questionRefusals s a b))
+    × ((replyNumber r ≡ 0 → replyValue r ≡ answerNumber (answer (lending s b) a)) × AnswerMeans s a b r))
+
+-- of a refusal, from its number
+refusing : (s : State) (a b n : ℕ) → (n ≡ 0 → ⊥) → firstMet (questionRefusals s a b) ≡ n → Promised s a b (Refused n)
 unfolding replyOf
-refusing s a b n r e = (sym r ∙ ap (replied s a b) (sym e), record { first-refusal = sym e; meaning = tt })
+refusing s a b n some e = (rw (e, ne-eqb n 0 some) refl, (sym e, (λ z. absurd (some z), tt)))
 
 -- and of an answer
-answering : (s : State) (a b : ℕ) (x : Answer) → x ≡ answer (lending s b) a → Meaning (lending s b) a x → firstMet (questionRefusals s a b) ≡ 0
-    → (Answered x ≡ replyOf s a b) × Replied s a b (Answered x)
+answering : (s : State) (a b : ℕ) (x : Answer) → x ≡ answer (lending s b) a → Meaning (lending s b) a x
+    → firstMet (questionRefusals s a b) ≡ 0 → Promised s a b (Answered x)
 unfolding replyOf
-answering s a b x q m e = (ap Answered q ∙ ap (replied s a b) (sym e), record { first-refusal = sym e; meaning = m })
+answering s a b x q m e = (rw (e, q) refl, (sym e, (λ z. ap answerNumber q, m)))
 
 is-sound-requires : tie.Need-is-sound-requires
 is-sound-requires c κs = tt
+
+cast-if2 : tie.Need-cast-if2
+cast-if2 c = omega arith
+
+cast-if2-2 : tie.Need-cast-if2-2
+cast-if2-2 c = omega arith
+
+-- what passed the test of its range
+ranged : (c : tie.Else2) → let x = c .before .before .before .args in (x .a < 32) × (x .b < 64)
+ranged c =
+    let x = c .before .before .before .args in
+    let both = so (ltb (x .a) 32 && ltb (x .b) 64) (c .if2 .left) in (
+      ltb→lt (x .a) 32 (and-left (ltb (x .a) 32) (ltb (x .b) 64) both),
+      ltb→lt (x .b) 64 (and-right (ltb (x .a) 32) (ltb (x .b) 64) both),
+    )
+
+cast-area : tie.Need-cast-area
+cast-area c = omega (arith, ranged c .0)
+
+cast-object : tie.Need-cast-object
+cast-object c = omega (arith, ranged c .1)
 
 are-listed-requires : tie.Need-are-listed-requires
 are-listed-requires c κs = tt
@@ -51,15 +83,17 @@ unlisted c v e = sym (ap not (c .are-listed .ensures)) ∙ e
 
 -- ---- what is returned
 returns : tie.Need-returns
-returns c = refusing _ _ _ 12 refl (met _ _ (unsound c))
+returns c = refusing _ _ _ 12 (λ z. omega arith) (met _ _ (unsound c))
 
 returns-2 : tie.Need-returns-2
-returns-2 c = refusing _ _ _ 2 refl (passed _ _ (sound (c .before)) ∙ met _ _ (c .if2 .taken))
+returns-2 c = refusing _ _ _ 2 (λ z. omega arith) (passed _ _ (sound (c .before)) ∙ met _ _ (c .if2 .taken))
 
 returns-3 : tie.Need-returns-3
 returns-3 c =
     let in-range = c .before .before in
-    refusing _ _ _ 4 refl (passed _ _ (sound (in-range .before)) ∙ passed _ _ (in-range .if2 .left) ∙ met _ _ (unlisted (c .before) true (c .if3 .taken)))
+    refusing _ _ _ 4 (λ z. omega arith)
+    (passed _ _ (sound (in-range .before)) ∙ passed _ _ (in-range .if2 .left)
+    ∙ met _ _ (unlisted (c .before) true (c .if3 .taken)))
 
 returns-4 : tie.Need-returns-4
 returns-4 c =
@@ -71,4 +105,15 @@ returns-4 c =
 pub ask-spec : {M : Type 1} → statement M
 ask-spec =
     tie.close
-    (tie.spec is-sound-requires returns returns-2 are-listed-requires returns-3 steps-requires returns-4)
+    (tie.spec
+    is-sound-requires
+    returns
+    cast-if2
+    cast-if2-2
+    returns-2
+    cast-area
+    cast-object
+    are-listed-requires
+    returns-3
+    steps-requires
+    returns-4)

@@ -47,7 +47,7 @@ abbrev four-bytes : tie.Start → Bytes
 four-bytes c = fourBytes (c .args .code) (c .args .activator) (c .args .a) (c .args .b)
 
 fit : (c : tie.After-decoded) → decodeOf (four-bytes (begun c)) ≡ Fits (c .decoded .given .0 .0)
-fit c = sym (c .before .before .decode .ensures) ∙ c .decoded .given .1
+fit c = sym (c .before .before .decode .ensures .0) ∙ c .decoded .given .1
 
 is-sound-requires : tie.Need-is-sound-requires
 is-sound-requires c κs = tt
@@ -95,7 +95,7 @@ returns-2 c =
     let d = decoded .decode in
     c .outcome-of2 .ensures
     ∙ (λ i. outcomeOf (c .before .misfit .ensures i) (decoded .before .before .before .args .s))
-    ∙ step-misfit _ _ (d .result) (sound (decoded .before)) (d .ensures) (misfit-number (d .result) (c .before .before .match .keys2))
+    ∙ step-misfit _ _ (d .result) (sound (decoded .before)) (d .ensures .0) (misfit-number (d .result) (c .before .before .match .keys2))
 
 returns-3 : tie.Need-returns-3
 returns-3 c =

@@ -8,12 +8,12 @@ use denote.Ref.{now}
 use lib.ListN.{getD}
 use Rattle.state.specs.Below.{eachBelow}
 use Rattle.state.proofs.Below.{each-none, each-step, each-end}
-use Rattle.pair_tables.specs.Pairs.{firstOf, secondOf, earlier, pairAscends, pairsAscend}
+use Rattle.pair_tables.specs.Pairs.{firstByte, secondByte, earlier, pairAscends, pairsAscend}
 use Rattle.pair_tables.proofs.all_ascend.Statement.{statement}
 use Rattle.pair_tables.proofs.all_ascend.Tie as tie
 
 -- the bytes of pair k + 1
-next-read : (t : List ℕ) (k : ℕ) → earlier (firstOf t k) (secondOf t k) (getD t (k * 2 + 2) 0) (getD t (k * 2 + 3) 0) ≡ pairAscends t k
+next-read : (t : List ℕ) (k : ℕ) → earlier (firstByte t k) (secondByte t k) (getD t (k * 2 + 2) 0) (getD t (k * 2 + 3) 0) ≡ pairAscends t k
 next-read t k =
     let first : k * 2 + 2 ≡ (k + 1) * 2 = omega arith in
     let second : k * 2 + 3 ≡ (k + 1) * 2 + 1 = omega arith in

@@ -8,7 +8,8 @@ use native.Mathlib.Omega.{arith}
 use denote.Ref.{now}
 use Rattle.state.specs.Below.{eachBelow}
 use Rattle.state.proofs.Below.{each-none, each-add}
-use Rattle.pair_tables.specs.Pairs.{pairCount, pairFits, pairFitsFrom, pairsFit}
+use Rattle.pair_tables.specs.Pairs.{pairCount, pairFits, pairsFit}
+use Rattle.pair_tables.specs.Runs.{pairFitsFrom}
 use Rattle.pair_tables.proofs.all_fit.Statement.{statement}
 use Rattle.pair_tables.proofs.all_fit.Tie as tie
 

@@ -7,7 +7,7 @@ use denote.Ref.{now}
 use lib.ListN.{length}
 use Rattle.state.specs.Below.{eachBelow}
 use Rattle.state.proofs.Below.{each-none, each-step, each-end}
-use Rattle.pair_tables.specs.Pairs.{pairFitsFrom}
+use Rattle.pair_tables.specs.Runs.{pairFitsFrom}
 use Rattle.pair_tables.proofs.run_fits.Statement.{statement}
 use Rattle.pair_tables.proofs.run_fits.Tie as tie
 

@@ -4,10 +4,10 @@ use mathlib.Core.Path.{_≡_, refl}
 use mathlib.Core.Bool.{false, _&&_, not}
 use mathlib.Core.List.{[], _∷_}
 use borrow.Author.Needs.{needs}
-use Rattle.instructions.specs.Instructions.{row}
+use Rattle.instructions.specs.Instructions.{rule}
 use Rattle.instructions.specs.declared.Instruction.{Instruction}
 use Rattle.instructions.proofs.Arms.{in-arm}
-use Rattle.refusals.specs.Refusals.{absentBy}
+use Rattle.refusals.specs.Parts.{absentBy}
 use Rattle.refusals.proofs.is_absent.Statement.{statement}
 use Rattle.refusals.proofs.is_absent.Tie as tie
 
@@ -44,7 +44,7 @@ returns-5 c = search needs
 returns-6 : tie.Need-returns-6
 returns-6 c =
     let x = c .before .args in
-    in-arm (λ (y : Instruction). false ≡ (not (row y .adds) && absentBy (row y .target) (x .owned) (x .defined) (x .inside) (x .imported) (x .exported))) (x .x) 0 (1 ∷ 2 ∷ 4 ∷ 6 ∷ 8 ∷ 10 ∷ []) (c .match .keys6) (refl, (refl, (refl, (refl, (refl, (refl, (refl, tt)))))))
+    in-arm (λ (y : Instruction). false ≡ (not (rule y .adds) && absentBy (rule y .target) (x .owned) (x .defined) (x .inside) (x .imported) (x .exported))) (x .x) 0 (1 ∷ 2 ∷ 4 ∷ 6 ∷ 8 ∷ 10 ∷ []) (c .match .keys6) (refl, (refl, (refl, (refl, (refl, (refl, (refl, tt)))))))
 
 pub is-absent-spec : {M : Type 1} → statement M
 is-absent-spec =

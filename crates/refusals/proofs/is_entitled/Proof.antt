@@ -3,10 +3,10 @@
 use mathlib.Core.Path.{_≡_, refl}
 use mathlib.Core.List.{[], _∷_}
 use borrow.Author.Needs.{needs}
-use Rattle.instructions.specs.Instructions.{row}
+use Rattle.instructions.specs.Instructions.{rule}
 use Rattle.instructions.specs.declared.Instruction.{Instruction}
 use Rattle.instructions.proofs.Arms.{in-arm}
-use Rattle.refusals.specs.Refusals.{entitledBy}
+use Rattle.refusals.specs.Parts.{entitledBy}
 use Rattle.refusals.proofs.is_entitled.Statement.{statement}
 use Rattle.refusals.proofs.is_entitled.Tie as tie
 
@@ -31,7 +31,7 @@ returns-3 c = search needs
 returns-4 : tie.Need-returns-4
 returns-4 c =
     let x = c .before .args in
-    in-arm (λ (y : Instruction). x .own ≡ entitledBy (row y .mustOwn) (x .own) (x .both) (x .cut)) (x .x) 1 (2 ∷ 3 ∷ 6 ∷ 7 ∷ 8 ∷ 9 ∷ 10 ∷ 11 ∷ []) (c .match .keys4) (refl, (refl, (refl, (refl, (refl, (refl, (refl, (refl, (refl, tt)))))))))
+    in-arm (λ (y : Instruction). x .own ≡ entitledBy (rule y .mustOwn) (x .own) (x .both) (x .cut)) (x .x) 1 (2 ∷ 3 ∷ 6 ∷ 7 ∷ 8 ∷ 9 ∷ 10 ∷ 11 ∷ []) (c .match .keys4) (refl, (refl, (refl, (refl, (refl, (refl, (refl, (refl, (refl, tt)))))))))
 
 pub is-entitled-spec : {M : Type 1} → statement M
 is-entitled-spec =

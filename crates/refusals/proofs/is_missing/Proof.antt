@@ -4,10 +4,10 @@ use mathlib.Core.Path.{_≡_, refl}
 use mathlib.Core.Bool.{not}
 use mathlib.Core.List.{[], _∷_}
 use borrow.Author.Needs.{needs}
-use Rattle.instructions.specs.Instructions.{row}
+use Rattle.instructions.specs.Instructions.{rule}
 use Rattle.instructions.specs.declared.Instruction.{Instruction}
 use Rattle.instructions.proofs.Arms.{in-arm}
-use Rattle.refusals.specs.Refusals.{missingBy}
+use Rattle.refusals.specs.Parts.{missingBy}
 use Rattle.refusals.proofs.is_missing.Statement.{statement}
 use Rattle.refusals.proofs.is_missing.Tie as tie
 
@@ -26,17 +26,17 @@ returns-2 c = search needs
 returns-3 : tie.Need-returns-3
 returns-3 c =
     let x = c .before .args in
-    in-arm (λ (y : Instruction). not (x .outer) ≡ missingBy (row y .lookup) (x .area) (x .user) (x .outer) (x .object)) (x .x) 4 (5 ∷ []) (c .match .keys3) (refl, (refl, tt))
+    in-arm (λ (y : Instruction). not (x .outer) ≡ missingBy (rule y .lookup) (x .area) (x .user) (x .outer) (x .object)) (x .x) 4 (5 ∷ []) (c .match .keys3) (refl, (refl, tt))
 
 returns-4 : tie.Need-returns-4
 returns-4 c =
     let x = c .before .args in
-    in-arm (λ (y : Instruction). not (x .area) ≡ missingBy (row y .lookup) (x .area) (x .user) (x .outer) (x .object)) (x .x) 1 (2 ∷ 6 ∷ []) (c .match .keys4) (refl, (refl, (refl, tt)))
+    in-arm (λ (y : Instruction). not (x .area) ≡ missingBy (rule y .lookup) (x .area) (x .user) (x .outer) (x .object)) (x .x) 1 (2 ∷ 6 ∷ []) (c .match .keys4) (refl, (refl, (refl, tt)))
 
 returns-5 : tie.Need-returns-5
 returns-5 c =
     let x = c .before .args in
-    in-arm (λ (y : Instruction). not (x .object) ≡ missingBy (row y .lookup) (x .area) (x .user) (x .outer) (x .object)) (x .x) 7 (8 ∷ 9 ∷ 10 ∷ 11 ∷ []) (c .match .keys5) (refl, (refl, (refl, (refl, (refl, tt)))))
+    in-arm (λ (y : Instruction). not (x .object) ≡ missingBy (rule y .lookup) (x .area) (x .user) (x .outer) (x .object)) (x .x) 7 (8 ∷ 9 ∷ 10 ∷ 11 ∷ []) (c .match .keys5) (refl, (refl, (refl, (refl, (refl, tt)))))
 
 pub is-missing-spec : {M : Type 1} → statement M
 is-missing-spec =

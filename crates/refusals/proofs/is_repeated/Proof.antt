@@ -4,10 +4,10 @@ use mathlib.Core.Path.{_≡_, refl}
 use mathlib.Core.Bool.{false, _&&_}
 use mathlib.Core.List.{[], _∷_}
 use borrow.Author.Needs.{needs}
-use Rattle.instructions.specs.Instructions.{row}
+use Rattle.instructions.specs.Instructions.{rule}
 use Rattle.instructions.specs.declared.Instruction.{Instruction}
 use Rattle.instructions.proofs.Arms.{in-arm}
-use Rattle.refusals.specs.Refusals.{presentBy}
+use Rattle.refusals.specs.Parts.{presentBy}
 use Rattle.refusals.proofs.is_repeated.Statement.{statement}
 use Rattle.refusals.proofs.is_repeated.Tie as tie
 
@@ -50,7 +50,7 @@ returns-6 c = search needs
 returns-7 : tie.Need-returns-7
 returns-7 c =
     let x = c .before .args in
-    in-arm (λ (y : Instruction). false ≡ (row y .adds && presentBy (row y .target) (x .area) (x .object) (x .owned) (x .inside) (x .imported) (x .exported))) (x .x) 1 (3 ∷ 5 ∷ 7 ∷ 9 ∷ 11 ∷ []) (c .match .keys7) (refl, (refl, (refl, (refl, (refl, (refl, tt))))))
+    in-arm (λ (y : Instruction). false ≡ (rule y .adds && presentBy (rule y .target) (x .area) (x .object) (x .owned) (x .inside) (x .imported) (x .exported))) (x .x) 1 (3 ∷ 5 ∷ 7 ∷ 9 ∷ 11 ∷ []) (c .match .keys7) (refl, (refl, (refl, (refl, (refl, (refl, tt))))))
 
 pub is-repeated-spec : {M : Type 1} → statement M
 is-repeated-spec =

@@ -13,7 +13,7 @@ use Rattle.state.proofs.Checks.{met, passed, first-of-two}
 use Rattle.soundness.specs.Sound.{Sound}
 use Rattle.site_format.specs.Format.{labels, part}
 use Rattle.site_header.specs.Header.{headerChecks}
-use Rattle.site_file.specs.Reading.{outOfOrder, stateIn, tableChecks, stateChecks, refusalOf, readingOf, readOf}
+use Rattle.site_file.specs.Reading.{tablesAscend, stateIn, tableChecks, stateChecks, fileRefusal, readingOf, readOf}
 use Rattle.site_file.specs.declared.Reading.{Reading}
 use Rattle.site_file.proofs.Laws.{read-sound}
 use Rattle.site_file.proofs.read.Statement.{statement}
@@ -25,12 +25,12 @@ module _ (file : List ℕ) where
   promised e = (e, subst (λ (x : Reading). Sound (x .state)) (sym e) (read-sound file))
 
   -- a reading with a refusal, and one without
-  refusing : {r : Reading} {n : ℕ} → r ≡ readingOf n founding → n ≡ refusalOf file → eqb n 0 ≡ false → (r ≡ readOf file) × Sound (r .state)
+  refusing : {r : Reading} {n : ℕ} → r ≡ readingOf n founding → n ≡ fileRefusal file → eqb n 0 ≡ false → (r ≡ readOf file) × Sound (r .state)
   unfolding readOf
   refusing e m z =
       promised (e ∙ ap₂ readingOf m (ap (λ (b : Bool). cond b (stateIn file) founding) (sym z ∙ ap (λ (k : ℕ). eqb k 0) m)))
 
-  accepting : {s : State} → s ≡ stateIn file → 0 ≡ refusalOf file → (readingOf 0 s ≡ readOf file) × Sound s
+  accepting : {s : State} → s ≡ stateIn file → 0 ≡ fileRefusal file → (readingOf 0 s ≡ readOf file) × Sound s
   unfolding readOf
   accepting f m = promised (ap₂ readingOf m (f ∙ ap (λ (k : ℕ). cond (eqb k 0) (stateIn file) founding) m))
 
@@ -41,17 +41,17 @@ module _ (file : List ℕ) where
   abbrev later : List Check
   later = tableChecks file ++ ofState
 
-  of-header : {n : ℕ} → n ≡ firstMet (headerChecks file) → refusalOf file ≡ cond (eqb n 0) (firstMet later) n
-  unfolding refusalOf
+  of-header : {n : ℕ} → n ≡ firstMet (headerChecks file) → fileRefusal file ≡ cond (eqb n 0) (firstMet later) n
+  unfolding fileRefusal
   of-header e = first-of-two (headerChecks file) later tt ∙ ap (λ (k : ℕ). cond (eqb k 0) (firstMet later) k) (sym e)
 
-  in-header : {n : ℕ} → n ≡ firstMet (headerChecks file) → (n ≡ 0 → ⊥) → n ≡ refusalOf file
+  in-header : {n : ℕ} → n ≡ firstMet (headerChecks file) → (n ≡ 0 → ⊥) → n ≡ fileRefusal file
   in-header {n} e z = sym (of-header e ∙ ap (λ (b : Bool). cond b (firstMet later) n) (ne-eqb n 0 z))
 
-  behind-header : {n : ℕ} → n ≡ firstMet (headerChecks file) → n ≡ 0 → refusalOf file ≡ firstMet later
+  behind-header : {n : ℕ} → n ≡ firstMet (headerChecks file) → n ≡ 0 → fileRefusal file ≡ firstMet later
   behind-header {n} e z = of-header e ∙ ap (λ (b : Bool). cond b (firstMet later) n) (eq-eqb n 0 z)
 
-  behind-tables : {n : ℕ} {s : State} → s ≡ stateIn file → n ≡ firstMet (stateChecks s (part file labels)) → refusalOf file ≡ firstMet ofState → n ≡ refusalOf file
+  behind-tables : {n : ℕ} {s : State} → s ≡ stateIn file → n ≡ firstMet (stateChecks s (part file labels)) → fileRefusal file ≡ firstMet ofState → n ≡ fileRefusal file
   behind-tables h e m = e ∙ ap (λ (x : State). firstMet (stateChecks x (part file labels))) h ∙ sym m
 
 header-refusal-requires : tie.Need-header-refusal-requires
@@ -82,13 +82,13 @@ refused-requires-4 : tie.Need-refused-requires-4
 refused-requires-4 c κs = tt
 
 -- what each test that is passed says of the refusal
-headed : (c : tie.Else1) → refusalOf (c .before .before .before .args .file .now) ≡ firstMet (later (c .before .before .before .args .file .now))
+headed : (c : tie.Else1) → fileRefusal (c .before .before .before .args .file .now) ≡ firstMet (later (c .before .before .before .args .file .now))
 headed c = behind-header _ (c .before .header-refusal .ensures) (c .if1 .left)
 
-ranged : (c : tie.Else2) → refusalOf (c .before .before .before .before .before .before .args .file .now) ≡ firstMet ((27 when outOfOrder (c .before .before .before .before .before .before .args .file .now)) ∷ ofState (c .before .before .before .before .before .before .args .file .now))
+ranged : (c : tie.Else2) → fileRefusal (c .before .before .before .before .before .before .args .file .now) ≡ firstMet ((27 when not (tablesAscend (c .before .before .before .before .before .before .args .file .now))) ∷ ofState (c .before .before .before .before .before .before .args .file .now))
 ranged c = headed (c .before .before .before) ∙ passed _ _ (ap not (sym (c .before .before .tables-fit .ensures)) ∙ c .if2 .left)
 
-ascended : (c : tie.Else3) → refusalOf (c .before .before .before .before .before .before .before .args .file .now) ≡ firstMet (ofState (c .before .before .before .before .before .before .before .args .file .now))
+ascended : (c : tie.Else3) → fileRefusal (c .before .before .before .before .before .before .before .args .file .now) ≡ firstMet (ofState (c .before .before .before .before .before .before .before .args .file .now))
 ascended c = ranged (c .before) ∙ passed _ _ (ap not (sym (c .before .before .tables-ascend .ensures)) ∙ c .if3 .left)
 
 returns : tie.Need-returns

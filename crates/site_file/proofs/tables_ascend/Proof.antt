@@ -3,7 +3,7 @@
 use mathlib.Core.Path.{ap, _∙_}
 use Rattle.pair_tables.specs.Pairs.{pairsAscend}
 use Rattle.label_tables.specs.Labels.{labelsAscend}
-use Rattle.site_format.specs.Format.{Content, part, ascending}
+use Rattle.site_format.specs.Format.{Content, part, contentAscends}
 use Rattle.site_format.proofs.Tables.{each-of-six}
 use Rattle.site_file.proofs.tables_ascend.Statement.{statement}
 use Rattle.site_file.proofs.tables_ascend.Tie as tie
@@ -46,7 +46,7 @@ all-ascend-requires-6 c κs = tt
 
 returns : tie.Need-returns
 returns c =
-    each-of-six (λ (x : Content). ascending x (part (c .before .before .before .before .before .before .before .before .before .before .before .before .before .args .file .now) x))
+    each-of-six (λ (x : Content). contentAscends x (part (c .before .before .before .before .before .before .before .before .before .before .before .before .before .args .file .now) x))
     (c .before .before .before .before .before .before .before .before .before .before .all-ascend .ensures ∙ ap pairsAscend (c .before .before .before .before .before .before .before .before .before .before .before .owners .ensures))
     (c .before .before .before .before .before .before .before .before .all-ascend2 .ensures ∙ ap pairsAscend (c .before .before .before .before .before .before .before .before .before .definitions .ensures))
     (c .before .before .before .before .before .before .all-ascend3 .ensures ∙ ap pairsAscend (c .before .before .before .before .before .before .before .structure .ensures))

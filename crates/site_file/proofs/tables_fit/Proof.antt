@@ -3,7 +3,7 @@
 use mathlib.Core.Path.{ap, _∙_}
 use Rattle.pair_tables.specs.Pairs.{pairsFit}
 use Rattle.label_tables.specs.Labels.{labelsFit}
-use Rattle.site_format.specs.Format.{Content, part, inRange}
+use Rattle.site_format.specs.Format.{Content, part, contentFits}
 use Rattle.site_format.proofs.Tables.{each-of-six}
 use Rattle.site_file.proofs.tables_fit.Statement.{statement}
 use Rattle.site_file.proofs.tables_fit.Tie as tie
@@ -46,7 +46,7 @@ all-fit-requires-6 c κs = tt
 
 returns : tie.Need-returns
 returns c =
-    each-of-six (λ (x : Content). inRange x (part (c .before .before .before .before .before .before .before .before .before .before .before .before .before .args .file .now) x))
+    each-of-six (λ (x : Content). contentFits x (part (c .before .before .before .before .before .before .before .before .before .before .before .before .before .args .file .now) x))
     (c .before .before .before .before .before .before .before .before .before .before .all-fit .ensures ∙ ap (pairsFit 32) (c .before .before .before .before .before .before .before .before .before .before .before .owners .ensures))
     (c .before .before .before .before .before .before .before .before .all-fit2 .ensures ∙ ap (pairsFit 64) (c .before .before .before .before .before .before .before .before .before .definitions .ensures))
     (c .before .before .before .before .before .before .all-fit3 .ensures ∙ ap (pairsFit 32) (c .before .before .before .before .before .before .before .structure .ensures))

@@ -4,7 +4,7 @@ use Prim.Native.Nat.{ℕ}
 use mathlib.Core.Path.{ap}
 use mathlib.Core.Bool.{Bool, not}
 use lib.Dec.{ltb}
-use Rattle.site_format.specs.Format.{Content, rowOf, countIn}
+use Rattle.site_format.specs.Format.{Content, layoutOf, countIn}
 use Rattle.site_format.proofs.Tables.{each-of-six}
 use Rattle.site_header.proofs.counts_fit.Statement.{statement}
 use Rattle.site_header.proofs.counts_fit.Tie as tie
@@ -32,7 +32,7 @@ field-at-requires-6 c κs = tt
 
 returns : tie.Need-returns
 returns c =
-    each-of-six (λ (x : Content). not (ltb (rowOf x .most) (countIn (c .before .before .before .before .before .before .before .args .file .now) x)))
+    each-of-six (λ (x : Content). not (ltb (layoutOf x .most) (countIn (c .before .before .before .before .before .before .before .args .file .now) x)))
     (ap (above 1024) (c .before .before .before .before .before .field-at .ensures))
     (ap (above 64) (c .before .before .before .before .field-at2 .ensures))
     (ap (above 1024) (c .before .before .before .field-at3 .ensures))

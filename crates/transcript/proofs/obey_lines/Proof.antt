@@ -54,7 +54,7 @@ module _ (c : tie.After-first-line Inv-loop μ-loop) where
   room = line-room _ _ _ _ _ _ (top .loop .inv) (c .before .before .loop-test .taken)
 
   first : c .first-line .result ≡ firstLineOf (drop (top .loop .at) (now (start .args .input)))
-  first = c .first-line .ensures ∙ ap firstLineOf (part-from (now (start .args .input)) (top .loop .at))
+  first = c .first-line .ensures .0 ∙ ap firstLineOf (part-from (now (start .args .input)) (top .loop .at))
 
   takes : (0 < c .first-line .result .size) × (top .loop .at + c .first-line .result .size ≤ length (now (start .args .input)))
   takes = first-takes _ _ _ _ _ _ (top .loop .inv) (c .before .before .loop-test .taken) _ first

@@ -4,7 +4,7 @@ use Prim.Native.Nat.{_-_, _≤_}
 use mathlib.Core.Path.{_≡_, refl, sym}
 use native.Mathlib.Omega.{arith}
 use Rattle.state.specs.Below.{eachBelow}
-use Rattle.validity.specs.Rows.{cellReached}
+use Rattle.validity.specs.Parts.{cellReached}
 use Rattle.state.proofs.Below.{each-none, each-step, each-end}
 use Rattle.validity.proofs.all_reached.Statement.{statement}
 use Rattle.validity.proofs.all_reached.Tie as tie

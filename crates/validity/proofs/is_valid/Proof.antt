@@ -8,7 +8,7 @@ use Rattle.state.specs.Site.{import, export}
 use Rattle.state.proofs.Typed.{shaped-by-type}
 use Rattle.soundness.specs.Sound.{Valid}
 use Rattle.soundness.proofs.Laws.{valid-decided}
-use Rattle.validity.proofs.Rows.{valid-by-objects}
+use Rattle.validity.proofs.Parts.{valid-by-objects}
 use Rattle.validity.proofs.is_valid.Statement.{statement}
 use Rattle.validity.proofs.is_valid.Tie as tie
 
@@ -20,7 +20,7 @@ returns c =
     let start = c .before .before .before .before .before .before .before .before .before in
     let s = start .args .t1 in
     let shaped = shaped-by-type s _ (start .good .0 .1 .1) in
-    let e = c .objects-reached .ensures ∙ sym (valid-by-objects (s .definitions) (s .structure) (s .imports) (s .exports) (shaped .relations import) (shaped .relations export)) in
+    let e = c .objects-reached .ensures ∙ sym (valid-by-objects s (shaped .relations import) (shaped .relations export)) in
     (e, subst (λ (b : Bool). T b ↔ Valid s) (sym e) (valid-decided s))
 
 pub is-valid-spec : {M : Type 1} → statement M

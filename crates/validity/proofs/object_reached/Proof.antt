@@ -3,7 +3,7 @@
 use mathlib.Core.Path.{sym, ap₂, _∙_}
 use mathlib.Core.Bool.{_||_}
 use borrow.Author.Tests.{not-true}
-use Rattle.validity.proofs.Rows.{nothing-to-reach, reached-by-rows}
+use Rattle.validity.proofs.Parts.{nothing-to-reach, reached-by-rows}
 use Rattle.validity.proofs.object_reached.Statement.{statement}
 use Rattle.validity.proofs.object_reached.Tie as tie
 

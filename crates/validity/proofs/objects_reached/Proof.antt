@@ -7,7 +7,7 @@ use native.Mathlib.Omega.{arith}
 use borrow.Author.Tests.{not-true, not-false}
 use denote.Ref.{now}
 use Rattle.state.specs.Below.{eachBelow}
-use Rattle.validity.specs.Rows.{objectReached}
+use Rattle.validity.specs.Parts.{objectReached}
 use Rattle.state.proofs.Below.{each-none, each-goes, each-stop, each-done}
 use Rattle.validity.proofs.objects_reached.Statement.{statement}
 use Rattle.validity.proofs.objects_reached.Tie as tie

@@ -1,0 +1,102 @@
+-- What the layers above use of access. Each law is a type, which proofs/Laws.antt inhabits under the law's name. All
+-- but ShortChains hold whatever the limit of steps is, if it is below 255.
+use Prim.Native.Nat.{ℕ, _≤_, _<_}
+use mathlib.Core.Path.{_≡_}
+use mathlib.Core.Logic.{_⊎_, _↔_}
+use mathlib.Core.Bool.{Bool, true, false, not}
+use lib.Dec.{T, eqb}
+use lib.ListN.{getD}
+use Rattle.state.specs.Cells.{Pairs}
+use Rattle.rows.specs.Rows.{row, transpose}
+use Rattle.state.specs.Site.{area, object, limit, Kind, withListed, Relation, owner, firstKind, withPair, Shaped}
+use Rattle.state.specs.declared.State.{State}
+use Rattle.access.specs.Lending.{Lending, lending, lendingOf}
+use Rattle.access.specs.Chain.{Chain, ObjectChain}
+use Rattle.access.specs.Answer.{longest, has, answerWithin, answer, access, unreached, answerNumber}
+use Rattle.access.specs.Answer.{countsWithin, leastCounts, leastCount}
+use Rattle.access.specs.Claims.{RightWithin}
+use Rattle.access.specs.Rounds.{moveBy}
+
+-- ---- chains and answers within a number of steps
+abbrev pub AnswerWithinIsRight : Type 0
+AnswerWithinIsRight =
+    (start : ℕ → Bool) (move : ℕ → ℕ → Bool) (n a : ℕ) → RightWithin start move n a (answerWithin start move n a)
+
+-- Where there is a chain, there is one of fewer than 32 steps: there are 32 areas.
+abbrev pub ShortChains : Type 0
+ShortChains =
+    (start : ℕ → Bool) (move : ℕ → ℕ → Bool) (m a : ℕ) → Chain start move m a
+    → (n : ℕ) × (n < limit area) × Chain start move n a
+
+-- access is a chain within the limit
+abbrev pub AccessIsShortChain : Type 0
+AccessIsShortChain = (l : Lending) (a : ℕ) → T (access l a) ↔ ((n : ℕ) × (n ≤ longest) × ObjectChain l n a)
+
+-- ---- the counts of all areas
+-- the count of each area is the number of its answer
+abbrev pub CountIsAnswer : Type 0
+CountIsAnswer = (l : Lending) (a : ℕ) → a < limit area → getD (leastCounts l) a 0 ≡ answerNumber (answer l a)
+
+-- the number of an answer is the least count of the area; past the areas both are that of 'no access'
+abbrev pub NumberIsCount : Type 0
+NumberIsCount = (l : Lending) (a : ℕ) → answerNumber (answer l a) ≡ leastCount l a
+
+-- an area has access where its count is another number than that of 'no access'
+abbrev pub AccessIsCount : Type 0
+AccessIsCount =
+    (l : Lending) (a : ℕ) → a < limit area → access l a ≡ not (eqb (getD (leastCounts l) a 0) unreached)
+
+-- what `least_counts` promises is the counts of the object, where it is handed the object's rows and the structure
+-- transposed
+abbrev pub CountsOfRows : Type 0
+CountsOfRows =
+    (definition structure import export : Pairs) (o : ℕ)
+    → countsWithin (has (row definition o))
+    (moveBy structure (transpose structure) (has (row import o)) (has (row export o))) longest
+    ≡ leastCounts (lendingOf definition structure import export o)
+
+-- ---- more pairs, and equal ones
+-- each pair of l is one of k
+pub record Included (l k : Lending) : Type 0 where
+  pub definedIn : (a : ℕ) → a < limit area → T (l .definedIn a) → T (k .definedIn a)
+  pub importedBy : (a : ℕ) → a < limit area → T (l .importedBy a) → T (k .importedBy a)
+  pub exportedBy : (a : ℕ) → a < limit area → T (l .exportedBy a) → T (k .exportedBy a)
+  pub within : (a b : ℕ) → a < limit area → b < limit area → T (l .within a b) → T (k .within a b)
+
+-- more pairs keep access
+abbrev pub MoreKeepsAccess : Type 0
+MoreKeepsAccess = (l k : Lending) → Included l k → (a : ℕ) → T (access l a) → T (access k a)
+
+-- equal relations give equal answers
+abbrev pub EqualAnswers : Type 0
+EqualAnswers = (l k : Lending) → Included l k → Included k l → (a : ℕ) → answer l a ≡ answer k a
+
+-- access means that some area defines the object
+abbrev pub AccessIsDefined : Type 0
+AccessIsDefined = (l : Lending) (a : ℕ) → T (access l a) → (d : ℕ) × (d < limit area) × T (l .definedIn d)
+
+-- a number that is no area's has no access
+abbrev pub AccessIsArea : Type 0
+AccessIsArea = (l : Lending) (a : ℕ) → T (access l a) → a < limit area
+
+-- ---- the same of a state
+-- a number that is no object's has no access
+abbrev pub AccessIsObject : Type 0
+AccessIsObject = (s : State) (o a : ℕ) → Shaped s → T (access (lending s o) a) → o < limit object
+
+-- other objects' pairs, and owner pairs, do not matter
+abbrev pub OtherPairs : Type 0
+OtherPairs =
+    (s : State) (r : Relation) (p j : ℕ) (v : Bool) (o : ℕ)
+    → (r ≡ owner) ⊎ ((firstKind r ≡ object) × (o ≡ p → ⊥)) → lending (withPair s r p j v) o ≡ lending s o
+
+-- nor does who or what is listed
+abbrev pub ListsDoNotMatter : Type 0
+ListsDoNotMatter = (s : State) (k : Kind) (i : ℕ) (v : Bool) (o : ℕ) → lending (withListed s k i v) o ≡ lending s o
+
+-- an added pair is one pair more, and a removed one is one fewer
+abbrev pub AddedIsIncluded : Type 0
+AddedIsIncluded = (s : State) (r : Relation) (i j o : ℕ) → Included (lending s o) (lending (withPair s r i j true) o)
+
+abbrev pub RemovedIsIncluded : Type 0
+RemovedIsIncluded = (s : State) (r : Relation) (i j o : ℕ) → Included (lending (withPair s r i j false) o) (lending s o)

@@ -1,0 +1,36 @@
+-- What the layers above use. Each law is a type, which proofs/Laws.antt inhabits under the law's name.
+use Prim.Native.Nat.{ℕ, _<_}
+use mathlib.Core.Path.{_≡_}
+use mathlib.Core.Bool.{false}
+use mathlib.Core.List.{List, [], _∷_}
+use Rattle.state.specs.declared.State.{State}
+use Rattle.state.specs.Checks.{firstMet}
+use Rattle.access.specs.Lending.{lending}
+use Rattle.access.specs.Answer.{answer}
+use Rattle.soundness.specs.Tests.{isSound}
+use Rattle.instructions.specs.Instructions.{Bytes}
+use Rattle.machine.specs.Step.{stepOf, run, questionRefusals, refusedOr, replyOf}
+use Rattle.machine.specs.declared.Reply.the-variants.{Refused}
+
+-- a number has at most two digits
+abbrev pub TwoDigits : Type 0
+TwoDigits = (s : State) (bytes : Bytes) → stepOf s bytes .refusal < 100
+
+-- 12: "the state is unsound"
+abbrev pub UnsoundRefused : Type 0
+UnsoundRefused = (s : State) (bytes : Bytes) → isSound s ≡ false → stepOf s bytes .refusal ≡ 12
+
+abbrev pub UnsoundUnanswered : Type 0
+UnsoundUnanswered = (s : State) (a b : ℕ) → isSound s ≡ false → replyOf s a b ≡ Refused 12
+
+-- the reply is decided by the first refusal that is met
+abbrev pub ReplyByFirst : Type 0
+ReplyByFirst =
+    (s : State) (a b : ℕ) → replyOf s a b ≡ refusedOr (firstMet (questionRefusals s a b)) (answer (lending s b) a)
+
+-- no instruction, and one in front
+abbrev pub RunNone : Type 0
+RunNone = (s : State) → run s [] ≡ s
+
+abbrev pub RunMore : Type 0
+RunMore = (s : State) (bytes : Bytes) (rest : List Bytes) → run s (bytes ∷ rest) ≡ run (stepOf s bytes .state) rest
