@@ -1,23 +1,28 @@
 #!/usr/bin/env bash
-# The must-fail edits by crate and function, with what each gets wrong. The first line of an edit is '# WHAT: SENTENCE',
-# and WHAT is one or more names with ', ' between: a public function of the edit's own crate (machine::step,
-# state::State::empty), or a claim of any crate (claim Demand3). It fails where a first line is not so, where it names
-# what is not there, and where fewer than two edits name a public function of a library. With --check it counts the
-# edits, and prints no table.
+# The must-fail edits by crate and function, with what each gets wrong. An edit begins with a line '# WHAT: SENTENCE' for
+# each fault that it plants, and WHAT is one or more names with ', ' between: a public function of the edit's own crate
+# (machine::step, state::State::empty), or a claim of any crate (claim Demand3). Where the fault is planted in a private
+# function that those call, its name follows in parentheses: '# lines::first_line (extended): SENTENCE'. It fails where
+# a line is not so, where it names what is not there, and where fewer than two faults name a public function of a
+# library. With --check it counts the edits and their faults, and prints no table. With --refused it reads what the
+# prover said of each edit (target/must-fail): each function that is named must be refused, where an edit plants several
+# faults none of theirs because of another, and no edit only because the proof file no longer fits the code.
 set -euo pipefail
 export LC_ALL=C
 cd "$(dirname "$0")/.."
 
+table=false refused=false
 case ${1-} in
 '') table=true ;;
---check) table=false ;;
-*) echo 'usage: edits.sh [--check]' >&2; exit 2 ;;
+--check) ;;
+--refused) refused=true ;;
+*) echo 'usage: edits.sh [--check | --refused]' >&2; exit 2 ;;
 esac
 
 word='[A-Za-z0-9_]+'
 named="($word(::$word)+|claim $word)"
-form="^# $named(, $named)*: [^ ]"
-edits=0 public=0 faults=0
+form="^# $named(, $named)*( \\($word\\))?: [^ ]"
+edits=0 planted=0 public=0 faults=0
 # The claims of all crates; of the crate at hand the public functions, how many edits each name has, their rows in the
 # table, and the names that are not of a public function.
 declare -A is_claim=() is_public=() count=() rows=()
@@ -55,19 +60,58 @@ check_name() {
     esac
 }
 
-# Adds the edit to the rows of each name that it has. One that changes no file of src/ changes a definition.
-take_edit() {
-    local crate=$1 edit=$2 text first label row name before=,
-    text=$(<"$edit")
-    first=${text%%$'\n'*}
-    if ! [[ $first =~ $form ]]; then
-        fault "$edit: its first line is not '# WHAT: SENTENCE'"
+# What the prover said of a function in its log of an edit.
+said_of() {
+    sed -n "s/^fn $2: //p" "$1" 2>/dev/null | head -n 1 || true
+}
+
+# Is the function refused? Where others of the edit have a fault too, not because of one of them.
+check_refused() {
+    local log=$1 edit=$2 name=$3 planted_in=$4 said callee
+    said=$(said_of "$log" "$name")
+    while [[ $said == *'it calls `'* ]]; do
+        for callee in $(tr '`' '\n' <<<"$said" | grep ::); do
+            [[ $planted_in != *",$callee,"* ]] || fault "$edit: $name is refused because of $callee"
+        done
+        said=$(said_of "$log" "$callee")
+    done
+    case $said in
+    'not proved'* | 'no proof'*) ;;
+    *) fault "$edit: $name is not refused: '$said' in $log" ;;
+    esac
+}
+
+# The functions that the faults of an edit are planted in, with a comma before and behind each.
+places_of() {
+    local crate=$1 line
+    shift
+    for line; do
+        line=${line#'# '} line=${line%%: *}
+        case $line in
+        *')')
+            line=${line##*(}
+            printf ',%s' "$crate::${line%)}"
+            ;;
+        *) printf ',%s' "${line//, /,}" ;;
+        esac
+    done
+    echo ,
+}
+
+# Adds one fault of an edit to the rows of each name that it has.
+take_fault() {
+    local crate=$1 edit=$2 line=$3 row=$4 log=$5 places=$6 name leaf before=,
+    if ! [[ $line =~ $form ]]; then
+        fault "$edit: '$line' is not '# WHAT: SENTENCE'"
         return
     fi
-    label=${edit##*/}
-    printf -v row '    %-28s %s' "${label%.edit}" "${first#*: }"
-    [[ $text == *$'\nfile: src/'* ]] || row+=' [definition]'
-    first=${first#'# '}
+    planted=$((planted + 1))
+    line=${line#'# '} line=${line%%: *}
+    if [[ $line == *')' ]]; then
+        leaf=${line##*(} leaf=$crate::${leaf%)} line=${line%' ('*}
+        ! $refused || check_refused "$log" "$edit" "$leaf" "$places"
+        places=,
+    fi
     while IFS= read -r name; do
         [[ $before != *",$name,"* ]] || fault "$edit: it names $name twice"
         before+=$name,
@@ -75,7 +119,25 @@ take_edit() {
         [ -n "${is_public[$name]-}${rows[$name]-}" ] || others+=("$name")
         count[$name]=$((${count[$name]-0} + 1))
         rows[$name]+=$row$'\n'
-    done < <(sed 's/: .*//; s/, /\n/g' <<<"$first")
+        ! $refused || [[ $name == 'claim '* ]] || check_refused "$log" "$edit" "$name" "$places"
+    done <<<"${line//, /$'\n'}"
+}
+
+# Takes the faults of an edit, a leading line each. An edit that changes no file of src/ changes a definition.
+take_edit() {
+    local crate=$1 edit=$2 text label lines line row log places=,
+    text=$(<"$edit")
+    label=${edit##*/} label=${label%.edit}
+    log=target/must-fail/$crate/$label/.log
+    mapfile -t lines < <(sed '/^#/!Q' "$edit")
+    [ "${#lines[@]}" -gt 0 ] || fault "$edit: it does not begin with '# WHAT: SENTENCE'"
+    [ "${#lines[@]}" -le 1 ] || places=$(places_of "$crate" "${lines[@]}")
+    ! $refused || ! grep -q 'can be named from here' "$log" || fault "$edit: the proof file no longer fits, see $log"
+    for line in "${lines[@]}"; do
+        printf -v row '    %-28s %s' "$label" "${line#*: }"
+        [[ $text == *$'\nfile: src/'* ]] || row+=' [definition]'
+        take_fault "$crate" "$edit" "$line" "$row" "$log" "$places"
+    done
 }
 
 print_rows() {
@@ -95,7 +157,7 @@ take_crate() {
     for name in $functions; do
         [ -f "crates/$crate/src/lib.rt" ] || continue
         public=$((public + 1))
-        [ "${count[$name]-0}" -ge 2 ] || fault "crates/$crate/src: $name has fewer than two edits: ${count[$name]-0}"
+        [ "${count[$name]-0}" -ge 2 ] || fault "crates/$crate/src: $name has fewer than two faults: ${count[$name]-0}"
     done
     if $table && [ "${#rows[@]}" -gt 0 ]; then
         echo "$crate"
@@ -108,4 +170,8 @@ for name in $claims; do is_claim[$name]=1; done
 crates=$(listed_crates)
 for crate in $crates; do take_crate "$crate"; done
 [ "$faults" -eq 0 ] || exit 1
-echo "edits: $edits edits; each of the $public public functions has two or more"
+if $refused; then
+    echo "edits: each function that a fault names is refused, in $edits edits"
+else
+    echo "edits: $edits edits with $planted faults; each of the $public public functions has two or more"
+fi

@@ -36,7 +36,7 @@ rt check panelrights 2>&1 | tee "$log" | shorten || {
     exit "$status"
 }
 echo
-echo 'PanelRights, on the session of document 01 (crates/panelrights/stdin):'
-target/bin/panelrights <crates/panelrights/stdin
+echo 'PanelRights, on the session of document 01 (tests/panelrights/session.in):'
+target/bin/panelrights <tests/panelrights/session.in
 echo
 echo 'On a file of your own: target/bin/panelrights <FILE'
