@@ -160,8 +160,8 @@ size_t panelrights_state_bytes(void);
 uint8_t panelrights_founding(uint8_t *state, size_t state_len);
 
 /*
- * Obeys one instruction. 0, and the record is that of the state after it; or the refusal, 1 to 12, and no
- * byte is changed. A record of another length, or with a byte other than 0 and 1, is 12.
+ * Obeys one instruction. 0, and the record is that of the state after it; or the refusal, and no byte is
+ * changed. A record of another length, or with a byte other than 0 and 1, is 12.
  */
 uint8_t panelrights_step(uint8_t *state, size_t state_len, uint8_t code, uint8_t activator, uint8_t a, uint8_t b);
 

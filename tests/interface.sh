@@ -94,6 +94,15 @@ numbered=$(grep -oE 'PANELRIGHTS_[A-Z_]+ = ' include/panelrights.h | sed 's/ = /
 compared=$(sed -nE 's/^ *CHECK_NUMBER\((PANELRIGHTS_[A-Z_]+), [0-9]+\);$/\1/p' tests/interface/names.c | sort)
 [ "$numbered" = "$compared" ] || fail 'tests/interface/names.c has other names than the header gives a number'
 
+# The header's refusals are the numbers that the claims allow: those of a step, those of a file, and 31.
+refusals=$(sed -n '/^enum panelrights_refusal {/,/^};/s/.* = \([0-9]*\).*/\1/p' include/panelrights.h | sort -n)
+allowed=$({
+    printf '0\n31\n'
+    sed -n 's/^stepNumbers = //p' crates/refusals/specs/Refusals.antt | grep -oE '[0-9]+'
+    sed -n 's/^readNumbers = //p' crates/site_file/specs/Reading.antt | grep -oE '[0-9]+'
+} | sort -n)
+[ "$refusals" = "$allowed" ] || fail 'the header has other refusals than stepNumbers and readNumbers'
+
 printed=$(run_checks -Iinclude "$library")
 quietly g++ -std=c++11 -Wall -Wextra -Werror -pedantic -Iinclude tests/interface/header.cc "$library" -o "$work/header"
 quietly "$work/header"

@@ -14,7 +14,7 @@ use Rattle.state.specs.Cells.{Pairs, pair}
 use Rattle.rows.specs.Rows.{row, transpose}
 use Rattle.rows.proofs.Laws.{row-reads, transpose-reads}
 use Rattle.state.specs.Site.{area, object, limit, owner, definition, structure, import, export, related, withPair}
-use Rattle.state.specs.declared.State.{State}
+use Rattle.state.specs.Site.{Site}
 use Rattle.state.proofs.Bools.{or-left, or-right, or-cases, and-both, and-left, and-right, is-true, is-false, fails, holds}
 use Rattle.state.proofs.Tabulate.{length-tabulate, getD-tabulate, same-table}
 use Rattle.state.proofs.Laws.{related-other, related-outside, add-keeps-pairs, remove-adds-none}
@@ -124,9 +124,9 @@ access-is-chain l a = (
       access-is-short-chain l a .1 (s .0, omega (arith, s .1), s .2),
 )
 
-pub at-most-31 : Claims.AtMost31
+pub never-above : Claims.NeverAbove
 unfolding longest
-at-most-31 l a n e = let r = subst (Right l a) e (answer-is-right l a) in r .short
+never-above l a n e = let r = subst (Right l a) e (answer-is-right l a) in r .short
 
 -- the count of an area in the table of counts
 pub count-at : (start : ℕ → Bool) (move : ℕ → ℕ → Bool) (n a : ℕ) → a < limit area → getD (countsWithin start move n) a 0 ≡ answerNumber (answerWithin start move n a)
@@ -180,7 +180,7 @@ chain-start (here {a = d} h t) = (d, h, t)
 chain-start (onward c h t) = chain-start c
 
 pub access-is-defined : Laws.AccessIsDefined
-access-is-defined l a t = chain-start (access-is-chain l a .0 t .1)
+access-is-defined l a t = chain-start (access-is-short-chain l a .0 t .2)
 
 -- ---- more pairs
 -- a chain stays one where more starts and more steps are allowed
@@ -273,7 +273,7 @@ access-is-object s o a shaped t = go (decLt o (limit object))
         absurd (fails (related-outside s definition o (d .0) shaped (inl (omega arith))) (d .2))
 
 -- two states that say the same of the object
-same-lending : (s t : State) (o : ℕ)
+same-lending : (s t : Site) (o : ℕ)
     → ((a : ℕ) → related s definition o a ≡ related t definition o a) → ((a : ℕ) → related s import o a ≡ related t import o a)
     → ((a : ℕ) → related s export o a ≡ related t export o a) → ((a b : ℕ) → related s structure a b ≡ related t structure a b) → lending s o ≡ lending t o
 same-lending s t o d m e w i = record { definedIn = λ a. d a i; importedBy = λ a. m a i; exportedBy = λ a. e a i; within = λ a b. w a b i }

@@ -1,5 +1,5 @@
--- Chains of steps, their least length, and that there is none. A chain is over any test of where it may start and any
--- test of one step: the steps of an object are one use of it.
+-- Chains of steps, and their least length. A chain is over any test of where it may start and any test of one step: the
+-- steps of an object are one use of it.
 use Prim.Native.Nat.{ℕ, suc, _≤_, _<_}
 use mathlib.Core.Bool.{Bool}
 use lib.Dec.{T}
@@ -15,10 +15,6 @@ pub data Chain (start : ℕ → Bool) (move : ℕ → ℕ → Bool) : ℕ → �
 pub record Shortest (start : ℕ → Bool) (move : ℕ → ℕ → Bool) (a n : ℕ) : Type 0 where
   pub chain : Chain start move n a
   pub least : (m : ℕ) → Chain start move m a → n ≤ m
-
--- No chain of any length leads to the area.
-abbrev pub NoChain : (ℕ → Bool) → (ℕ → ℕ → Bool) → ℕ → Type 0
-NoChain start move a = (n : ℕ) → Chain start move n a → ⊥
 
 -- "a chain of steps leads to it from the defining area": a chain of n steps of the object. In no step it is the
 -- defining area itself.

@@ -8,7 +8,7 @@ use mathlib.Core.Bool.{Bool, true, false}
 use lib.Dec.{T}
 use Rattle.state.specs.Site.{area, limit}
 use Rattle.access.specs.Lending.{Lending, step}
-use Rattle.access.specs.Chain.{Chain, Shortest, NoChain, ObjectChain}
+use Rattle.access.specs.Chain.{Chain, Shortest, ObjectChain}
 use Rattle.access.specs.Answer.{longest, answer, access}
 use Rattle.access.specs.declared.Answer.{Answer}
 use Rattle.access.specs.declared.Answer.the-variants.{Steps, NoAccess}
@@ -42,28 +42,18 @@ abbrev pub DefinerInNoStep : Type 0
 DefinerInNoStep = (l : Lending) (a : ℕ) → a < limit area → T (l .definedIn a) → answer l a ≡ Steps 0
 
 -- "never above 31"
-abbrev pub AtMost31 : Type 0
-AtMost31 = (l : Lending) (a n : ℕ) → answer l a ≡ Steps n → n ≤ 31
+abbrev pub NeverAbove : Type 0
+NeverAbove = (l : Lending) (a n : ℕ) → answer l a ≡ Steps n → n ≤ 31
 
--- 'No access' means that no chain of any length leads to the area. This claim and AccessIsChain rest on the limit of 31
--- steps.
-abbrev pub NoChainAtAll : Lending → ℕ → Answer → Type 0
-NoChainAtAll l a x = x ≡ NoAccess → NoChain (l .definedIn) (step l) a
-
+-- 'No access' means that no chain of any length leads to the area. This claim and the next rest on the limit of 31.
 abbrev pub NoAccessIsNoChain : Type 0
-NoAccessIsNoChain = (l : Lending) (a : ℕ) → NoChainAtAll l a (answer l a)
+NoAccessIsNoChain = (l : Lending) (a : ℕ) → answer l a ≡ NoAccess → (n : ℕ) → ObjectChain l n a → ⊥
 
--- What `steps` promises of its result, beside the equation: the answer is right, and 'no access' means that there is no
--- chain at all.
-pub record Meaning (l : Lending) (a : ℕ) (x : Answer) : Type 0 where
-  pub right : Right l a x
-  pub none-at-all : NoChainAtAll l a x
-
--- ---- "An area has access to an object if it defines it or a chain of steps leads to it from the defining area."
+-- "An area has access to an object if it defines it or a chain of steps leads to it from the defining area."
 abbrev pub AccessIsChain : Type 0
 AccessIsChain = (l : Lending) (a : ℕ) → T (access l a) ↔ ((n : ℕ) × ObjectChain l n a)
 
--- access and the answer are one: there is access where the answer is a number of steps
+-- ---- access and the answer are one: there is access where the answer is a number of steps
 abbrev pub isSteps : Answer → Bool
 isSteps (Steps n) = true
 isSteps NoAccess = false

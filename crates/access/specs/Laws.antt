@@ -9,7 +9,7 @@ use lib.ListN.{getD}
 use Rattle.state.specs.Cells.{Pairs}
 use Rattle.rows.specs.Rows.{row, transpose}
 use Rattle.state.specs.Site.{area, object, limit, Kind, withListed, Relation, owner, firstKind, withPair, Shaped}
-use Rattle.state.specs.declared.State.{State}
+use Rattle.state.specs.Site.{Site}
 use Rattle.access.specs.Lending.{Lending, lending, lendingOf}
 use Rattle.access.specs.Chain.{Chain, ObjectChain}
 use Rattle.access.specs.Answer.{longest, has, answerWithin, answer, access, unreached, answerNumber}
@@ -82,21 +82,21 @@ AccessIsArea = (l : Lending) (a : ℕ) → T (access l a) → a < limit area
 -- ---- the same of a state
 -- a number that is no object's has no access
 abbrev pub AccessIsObject : Type 0
-AccessIsObject = (s : State) (o a : ℕ) → Shaped s → T (access (lending s o) a) → o < limit object
+AccessIsObject = (s : Site) (o a : ℕ) → Shaped s → T (access (lending s o) a) → o < limit object
 
 -- other objects' pairs, and owner pairs, do not matter
 abbrev pub OtherPairs : Type 0
 OtherPairs =
-    (s : State) (r : Relation) (p j : ℕ) (v : Bool) (o : ℕ)
+    (s : Site) (r : Relation) (p j : ℕ) (v : Bool) (o : ℕ)
     → (r ≡ owner) ⊎ ((firstKind r ≡ object) × (o ≡ p → ⊥)) → lending (withPair s r p j v) o ≡ lending s o
 
 -- nor does who or what is listed
 abbrev pub ListsDoNotMatter : Type 0
-ListsDoNotMatter = (s : State) (k : Kind) (i : ℕ) (v : Bool) (o : ℕ) → lending (withListed s k i v) o ≡ lending s o
+ListsDoNotMatter = (s : Site) (k : Kind) (i : ℕ) (v : Bool) (o : ℕ) → lending (withListed s k i v) o ≡ lending s o
 
 -- an added pair is one pair more, and a removed one is one fewer
 abbrev pub AddedIsIncluded : Type 0
-AddedIsIncluded = (s : State) (r : Relation) (i j o : ℕ) → Included (lending s o) (lending (withPair s r i j true) o)
+AddedIsIncluded = (s : Site) (r : Relation) (i j o : ℕ) → Included (lending s o) (lending (withPair s r i j true) o)
 
 abbrev pub RemovedIsIncluded : Type 0
-RemovedIsIncluded = (s : State) (r : Relation) (i j o : ℕ) → Included (lending (withPair s r i j false) o) (lending s o)
+RemovedIsIncluded = (s : Site) (r : Relation) (i j o : ℕ) → Included (lending (withPair s r i j false) o) (lending s o)

@@ -2,7 +2,7 @@
 use Prim.Native.Nat.{ℕ}
 use mathlib.Core.Bool.{Bool, _&&_, _||_}
 use Rattle.state.specs.Cells.{Pairs, pair}
-use Rattle.state.specs.declared.State.{State}
+use Rattle.state.specs.Site.{Site}
 
 -- One object's relations, as tests on area numbers: how they are kept does not matter here.
 pub record Lending : Type 0 where
@@ -33,5 +33,5 @@ lendingOf definition structure import export o =
     }
 
 -- what a state says of object o
-abbrev pub lending : State → ℕ → Lending
+abbrev pub lending : Site → ℕ → Lending
 lending s o = lendingOf (s .definitions) (s .structure) (s .imports) (s .exports) o

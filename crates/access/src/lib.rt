@@ -1,9 +1,10 @@
 // Access to an object: the least number of steps from the area that defines it.
 ghost use mathlib.Core.Path.{_≡_};
 ghost use Prim.Native.Nat.{_<_};
-ghost use Rattle.access.specs.Lending.{lendingOf};
+ghost use Rattle.state.specs.Stands.{site};
+ghost use Rattle.access.specs.Lending.{lending};
 ghost use Rattle.access.specs.Answer.{longest, has, answer, answerNumber, countsWithin, leastCount};
-ghost use Rattle.access.specs.Claims.{Meaning};
+ghost use Rattle.access.specs.Claims.{Right};
 ghost use Rattle.access.specs.Rounds.{moveBy, nextTo, joinedWith, uncounted, countedAs, anyArea};
 use state::State;
 
@@ -126,35 +127,19 @@ pub fn least_counts<'a>(
 }
 
 // The answer for one area and object. Its number is the area's count in `least_counts`; 255, no access, past the areas.
-pub fn steps<'a>(
-    definitions: &'a [bool],
-    structure: &'a [bool; 1024],
-    imports: &'a [bool],
-    exports: &'a [bool],
-    area: u8,
-    object: u8,
-) -> Answer
-    ensures equation { λ r. ⌜ r ≡ answer
-        (lendingOf (now (definitions .entry)) (now (structure .entry)) (now (imports .entry)) (now (exports .entry))
-        object) area ⌝ }
-    ensures meaning { λ r. ⌜ Meaning
-        (lendingOf (now (definitions .entry)) (now (structure .entry)) (now (imports .entry)) (now (exports .entry))
-        object) area r ⌝ }
-    ensures number { λ r. ⌜ answerNumber r ≡ leastCount
-        (lendingOf (now (definitions .entry)) (now (structure .entry)) (now (imports .entry)) (now (exports .entry))
-        object) area ⌝ }
+pub fn steps(s: State, area: u8, object: u8) -> Answer
+    ensures equation { λ r. ⌜ r ≡ answer (lending (site s) object) area ⌝ }
+    ensures meaning { λ r. ⌜ Right (lending (site s) object) area r ⌝ }
+    ensures number { λ r. ⌜ answerNumber r ≡ leastCount (lending (site s) object) area ⌝ }
 {
     if State::AREAS <= area {
         return Answer::NoAccess;
     }
-    let transposed = rows::transposed(structure);
-    let counts = least_counts(
-        rows::row_of(definitions, object),
-        structure,
-        &transposed,
-        rows::row_of(imports, object),
-        rows::row_of(exports, object),
-    );
+    let transposed = rows::transposed(&s.structure);
+    let defined = rows::row_of(&s.definitions, object);
+    let imported = rows::row_of(&s.imports, object);
+    let exported = rows::row_of(&s.exports, object);
+    let counts = least_counts(defined, &s.structure, &transposed, imported, exported);
     let n = counts[area as usize];
     if n == UNREACHED {
         Answer::NoAccess

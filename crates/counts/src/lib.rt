@@ -2,6 +2,7 @@
 ghost use mathlib.Core.Path.{_≡_};
 ghost use Rattle.state.specs.Walk.{count};
 ghost use Rattle.state.specs.Site.{counts};
+ghost use Rattle.state.specs.Stands.{site};
 use state::State;
 
 // How many numbers or pairs are there?
@@ -17,7 +18,7 @@ pub fn count(cells: &[bool]) -> usize
 
 // How many users, areas, objects, owner, structure, import and export pairs are there?
 pub fn counts(s: State) -> [usize; 7]
-    ensures { λ r. ⌜ r ≡ counts s ⌝ }
+    ensures { λ r. ⌜ r ≡ counts (site s) ⌝ }
 {
     [
         count(&s.users),

@@ -168,14 +168,7 @@ fn print_answer(answer: Answer) {
 }
 
 fn ask(s: State, area: u8, object: u8) {
-    let answer = access::steps(
-        &s.definitions,
-        &s.structure,
-        &s.imports,
-        &s.exports,
-        area,
-        object,
-    );
+    let answer = access::steps(s, area, object);
     print(b"  area ");
     print_number(area);
     print(b", object ");
@@ -187,25 +180,24 @@ fn ask(s: State, area: u8, object: u8) {
 fn chain() -> State {
     let mut s = State::founding();
     for a in 0..31u8 {
-        state::put_32(&mut s.structure, a, a + 1, true);
-        state::put_64(&mut s.exports, 9, a, true);
-        state::put_64(&mut s.imports, 10, a, true);
+        let inner = updates::with_structure(s, a, a + 1, true);
+        let outward = updates::with_export(inner, 9, a, true);
+        let inward = updates::with_import(outward, 10, a, true);
+        s = inward;
     }
     s
 }
 
 // The state after one command that writes a pair.
 fn changed(s: State, kind: u32, x: u8, y: u8) -> State {
-    let mut next = s;
     match kind {
-        ADD_STRUCTURE => state::put_32(&mut next.structure, x, y, true),
-        REMOVE_STRUCTURE => state::put_32(&mut next.structure, x, y, false),
-        DEFINE => state::put_64(&mut next.definitions, x, y, true),
-        IMPORT => state::put_64(&mut next.imports, x, y, true),
-        EXPORT => state::put_64(&mut next.exports, x, y, true),
-        _ => {}
+        ADD_STRUCTURE => updates::with_structure(s, x, y, true),
+        REMOVE_STRUCTURE => updates::with_structure(s, x, y, false),
+        DEFINE => updates::with_definition(s, x, y, true),
+        IMPORT => updates::with_import(s, x, y, true),
+        EXPORT => updates::with_export(s, x, y, true),
+        _ => s,
     }
-    next
 }
 
 // The state after one command, whatever it is.

@@ -10,15 +10,19 @@ use native.Mathlib.Decide.{ℕ-discrete}
 use lib.Dec.{T, eqb}
 use borrow.Author.Tests.{eq-eqb, ne-eqb}
 use Rattle.state.specs.Site.{Kind, user, area, object, listed, withListed, Relation, owner, definition, structure, import, export, related, withPair, owns}
-use Rattle.state.specs.declared.State.{State}
+use Rattle.state.specs.Site.{Site}
 use Rattle.state.proofs.Bools.{fails, so}
 use Rattle.state.proofs.Laws.{list-keeps-pairs, related-else, related-other-relation}
 use Rattle.soundness.specs.Sound.{Sound}
-use Rattle.instructions.specs.Instructions.{Bytes, Target, theArea, pairOf}
+use Rattle.instructions.specs.Instructions.{Bytes, rule}
+use Rattle.instructions.specs.declared.Target.{Target}
+use Rattle.instructions.specs.declared.Target.the-variants.{TheArea, Owner, Definition, Structure, Import, Export}
 use Rattle.instructions.specs.Decode.{decodeOf, misfits}
 use Rattle.instructions.proofs.Laws.{fits-exactly}
 use Rattle.successors.specs.Successor.{withoutOwner, changed, successor, successorOf}
-use Rattle.state.specs.Checks.{firstMet}
+use Rattle.state.specs.Checks.{_when_, firstMet, metAt}
+use Rattle.soundness.specs.Tests.{isSound}
+use Rattle.machine.proofs.Laws.{accepted-meets-none}
 use Rattle.refusals.specs.Refusals.{checksOf, refusals}
 use Rattle.machine.specs.Step.{stepRefusal, stepOf, run}
 use Rattle.guarantees.specs.Demand3
@@ -26,47 +30,30 @@ use Rattle.guarantees.specs.Demand3.{Silent, silent-end, silent-next, Le
 use Rattle.instructions.specs.declared.Instruction.{Instruction}
 use Rattle.instructions.specs.declared.Decoded.{Decoded}
 use Rattle.instructions.specs.declared.Decoded.the-variants.{Fits, NoCode, OutOfRange}
-use Rattle.instructions.specs.declared.Instruction.the-variants.{ListArea, UnlistArea, AddOwner, RemoveOwner, AddStructure, RemoveStructure, Define, RemoveDefinition, AddImport, RemoveImport, AddExport, RemoveExport}
-use Rattle.state.proofs.Checks.{numbered, Passed, all-passed}
 use Rattle.guarantees.proofs.Parts.{different}
+use Rattle.instructions.specs.declared.Rule.{Rule}
+use Rattle.guarantees.proofs.Rows.{Row, row, lists-area, unlists-area, adds-owner, removes-owner, adds-structure, removes-structure}
+use Rattle.guarantees.proofs.Rows.{adds-definition, removes-definition, adds-import, removes-import, adds-export, removes-export}
 use Rattle.guarantees.proofs.Kept.{Accepted, accepted-sound}
 
 -- ---- one step
 -- The state after a step is the one before, or the successor of an instruction that is accepted.
-module _ (s : State) (bytes : Bytes) where
-  abbrev gives : Instruction → State
+module _ (s : Site) (bytes : Bytes) where
+  abbrev gives : Instruction → Site
   gives x = successor s x (bytes .activator) (bytes .a) (bytes .b)
 
-  abbrev pub Taken : State → Type 0
-  Taken t = (x : Instruction) × Accepted s x (bytes .activator) (bytes .a) (bytes .b) × (t ≡ gives x)
+  abbrev pub Taken : Site → Type 0
+  Taken t = (x : Instruction) × Accepted s (rule x) (bytes .activator) (bytes .a) (bytes .b) × (t ≡ gives x)
 
-  picked : (d : Decoded) → decodeOf bytes ≡ d → Passed (misfits d ++ checksOf s bytes d) → Taken (successorOf s bytes d)
-  picked NoCode e q = absurd (fails (q .0) tt)
-  picked OutOfRange e q = absurd (fails (q .1 .0) tt)
-  picked (Fits x) e q = let r = q .1 .1 in (
-    x,
-    record {
-      in-range = fits-exactly bytes x .0 e .in-range;
-      known = r .0;
-      named = r .1 .0;
-      owned = r .1 .1 .0;
-      new = r .1 .1 .1 .0;
-      there = r .1 .1 .1 .1 .0;
-      not-last = r .1 .1 .1 .1 .1 .0;
-      not-used = r .1 .1 .1 .1 .1 .1 .0;
-      reached = r .1 .1 .1 .1 .1 .1 .1 .0;
-      valid = r .1 .1 .1 .1 .1 .1 .1 .1 .0;
-    },
-    refl,
-  )
+  -- by what the bytes fit; one that fits nothing would meet 1 or 2
+  picked : (d : Decoded) → decodeOf bytes ≡ d
+      → ((n : ℕ) → metAt n ((12 when not (isSound s)) ∷ (misfits d ++ checksOf s bytes d)) ≡ false) → Taken (successorOf s bytes d)
+  picked NoCode e passes = absurd (fails (passes 1) tt)
+  picked OutOfRange e passes = absurd (fails (passes 2) tt)
+  picked (Fits x) e passes = (x, record { in-range = fits-exactly bytes x .0 e .in-range; passes = passes }, refl)
 
-  all-numbered : (d : Decoded) → T (numbered (misfits d ++ checksOf s bytes d))
-  all-numbered (Fits x) = tt
-  all-numbered NoCode = tt
-  all-numbered OutOfRange = tt
-
-  accepted : firstMet (refusals s bytes) ≡ 0 → Taken (successorOf s bytes (decodeOf bytes))
-  accepted e = picked (decodeOf bytes) refl (all-passed (refusals s bytes) (all-numbered (decodeOf bytes)) e .1)
+  accepted : stepOf s bytes .refusal ≡ 0 → Taken (successorOf s bytes (decodeOf bytes))
+  accepted e = picked (decodeOf bytes) refl (accepted-meets-none s bytes e)
 
   pub stepped : (stepOf s bytes .state ≡ s) ⊎ Taken (stepOf s bytes .state)
   unfolding stepOf stepRefusal
@@ -79,96 +66,96 @@ module _ (s : State) (bytes : Bytes) where
       go (yes e) = rw (eq-eqb n 0 e) (inr (accepted e))
       go (no f) = inl (rw (ne-eqb n 0 f))
 
-pub step-sound : (s : State) (bytes : Bytes) → Sound s → Sound (stepOf s bytes .state)
+pub step-sound : (s : Site) (bytes : Bytes) → Sound s → Sound (stepOf s bytes .state)
 step-sound s bytes h = go (stepped s bytes)
   where
     go : (stepOf s bytes .state ≡ s) ⊎ Taken s bytes (stepOf s bytes .state) → Sound (stepOf s bytes .state)
     go (inl e) = rw e h
-    go (inr y) = rw (y .2) (accepted-sound s h (y .0) (bytes .activator) (bytes .a) (bytes .b) (y .1))
+    go (inr y) = rw (y .2) (accepted-sound s h (row (y .0)) (bytes .activator) (bytes .a) (bytes .b) (y .1))
 
 -- ---- what a step leaves to an area
 -- the area's owner, definition, import and export pairs are the same
-pub record Same (s t : State) (p : ℕ) : Type 0 where
+pub record Same (s t : Site) (p : ℕ) : Type 0 where
   pairs : (r : Relation) → (r ≡ structure → ⊥) → (i : ℕ) → related t r i p ≡ related s r i p
 
-same-pair : (s : State) (q : Relation) (i a : ℕ) (v : Bool) (p : ℕ) → (p ≡ a → ⊥) → Same s (withPair s q i a v) p
+same-pair : (s : Site) (q : Relation) (i a : ℕ) (v : Bool) (p : ℕ) → (p ≡ a → ⊥) → Same s (withPair s q i a v) p
 same-pair s q i a v p ne = record { pairs = λ r ns n. go r n (related-else s q r i a n p v) }
   where
     go : (r : Relation) (n : ℕ) → ((r ≡ q) × (n ≡ i) × (p ≡ a)) ⊎ (related (withPair s q i a v) r n p ≡ related s r n p) → related (withPair s q i a v) r n p ≡ related s r n p
     go r n (inl e) = absurd (ne (e .2))
     go r n (inr e) = e
 
-same-structure : (s : State) (i j : ℕ) (v : Bool) (p : ℕ) → Same s (withPair s structure i j v) p
+same-structure : (s : Site) (i j : ℕ) (v : Bool) (p : ℕ) → Same s (withPair s structure i j v) p
 same-structure s i j v p = record { pairs = λ r ns n. related-other-relation s structure r i j n p v ns }
 
-same-list : (s : State) (k : Kind) (i : ℕ) (v : Bool) (p : ℕ) → Same s (withListed s k i v) p
+same-list : (s : Site) (k : Kind) (i : ℕ) (v : Bool) (p : ℕ) → Same s (withListed s k i v) p
 same-list s k i v p = record { pairs = λ r ns n. list-keeps-pairs s k i v r n p }
 
-same-none : (s : State) (p : ℕ) → Same s s p
+same-none : (s : Site) (p : ℕ) → Same s s p
 same-none s p = record { pairs = λ r ns i. refl }
 
-same-then : {s t w : State} {p : ℕ} → Same s t p → Same t w p → Same s w p
+same-then : {s t w : Site} {p : ℕ} → Same s t p → Same t w p → Same s w p
 same-then f g = record { pairs = λ r ns i. g .pairs r ns i ∙ f .pairs r ns i }
 
 -- Only structure pairs change for an area other than a.
-changed-same : (s : State) (x : Target) (v : Bool) (u a b p : ℕ) → (p ≡ a → ⊥) → Same s (changed s x v u a b) p
-changed-same s theArea true u a b p ne = same-then (same-list s area a true p) (same-pair (withListed s area a true) owner u a true p ne)
-changed-same s theArea false u a b p ne =
+changed-same : (s : Site) (x : Target) (v : Bool) (u a b p : ℕ) → (p ≡ a → ⊥) → Same s (changed s x v u a b) p
+changed-same s TheArea true u a b p ne = same-then (same-list s area a true p) (same-pair (withListed s area a true) owner u a true p ne)
+changed-same s TheArea false u a b p ne =
     same-then (same-then (same-pair s owner u a false p ne) (same-list (withPair s owner u a false) user u _ p)) (same-list (withoutOwner s u a) area a false p)
-changed-same s (pairOf owner) true u a b p ne = same-then (same-list s user b true p) (same-pair (withListed s user b true) owner b a true p ne)
-changed-same s (pairOf owner) false u a b p ne = same-then (same-pair s owner b a false p ne) (same-list (withPair s owner b a false) user b _ p)
-changed-same s (pairOf definition) true u a b p ne = same-then (same-list s object b true p) (same-pair (withListed s object b true) definition b a true p ne)
-changed-same s (pairOf definition) false u a b p ne = same-then (same-list s object b false p) (same-pair (withListed s object b false) definition b a false p ne)
-changed-same s (pairOf structure) true u a b p ne = same-structure s a b true p
-changed-same s (pairOf structure) false u a b p ne = same-structure s a b false p
-changed-same s (pairOf import) true u a b p ne = same-pair s import b a true p ne
-changed-same s (pairOf import) false u a b p ne = same-pair s import b a false p ne
-changed-same s (pairOf export) true u a b p ne = same-pair s export b a true p ne
-changed-same s (pairOf export) false u a b p ne = same-pair s export b a false p ne
+changed-same s Owner true u a b p ne = same-then (same-list s user b true p) (same-pair (withListed s user b true) owner b a true p ne)
+changed-same s Owner false u a b p ne = same-then (same-pair s owner b a false p ne) (same-list (withPair s owner b a false) user b _ p)
+changed-same s Definition true u a b p ne = same-then (same-list s object b true p) (same-pair (withListed s object b true) definition b a true p ne)
+changed-same s Definition false u a b p ne = same-then (same-list s object b false p) (same-pair (withListed s object b false) definition b a false p ne)
+changed-same s Structure true u a b p ne = same-structure s a b true p
+changed-same s Structure false u a b p ne = same-structure s a b false p
+changed-same s Import true u a b p ne = same-pair s import b a true p ne
+changed-same s Import false u a b p ne = same-pair s import b a false p ne
+changed-same s Export true u a b p ne = same-pair s export b a true p ne
+changed-same s Export false u a b p ne = same-pair s export b a false p ne
 
 -- An area that is listed and not the activator's is not area a, but for a structure pair.
-module _ (s : State) (u a b p : ℕ) (here : T (listed s area p)) (silent : T (owns s u p) → ⊥) where
+module _ (s : Site) (u a b p : ℕ) (here : T (listed s area p)) (silent : T (owns s u p) → ⊥) where
   his-area : (t : Target) (v : Bool) → not (owns s u a) ≡ false → Same s (changed s t v u a b) p
   his-area t v e = changed-same s t v u a b p (λ q. silent (rw q (so (owns s u a) e)))
 
-  taken-same : (x : Instruction) → Accepted s x u a b → Same s (successor s x u a b) p
-  taken-same ListArea y = changed-same s theArea true u a b p (λ q. fails (y .new) (rw q at here))
-  taken-same UnlistArea y = his-area theArea false (y .owned)
-  taken-same AddOwner y = his-area (pairOf owner) true (y .owned)
-  taken-same RemoveOwner y = his-area (pairOf owner) false (y .owned)
-  taken-same AddStructure y = same-structure s a b true p
-  taken-same RemoveStructure y = same-structure s a b false p
-  taken-same Define y = his-area (pairOf definition) true (y .owned)
-  taken-same RemoveDefinition y = his-area (pairOf definition) false (y .owned)
-  taken-same AddImport y = his-area (pairOf import) true (y .owned)
-  taken-same RemoveImport y = his-area (pairOf import) false (y .owned)
-  taken-same AddExport y = his-area (pairOf export) true (y .owned)
-  taken-same RemoveExport y = his-area (pairOf export) false (y .owned)
+  taken-same : {r : Rule} → Row r → Accepted s r u a b → Same s (changed s (r .target) (r .adds) u a b) p
+  taken-same lists-area y = changed-same s TheArea true u a b p (λ q. fails (y .passes 6) (rw q at here))
+  taken-same unlists-area y = his-area TheArea false (y .passes 5)
+  taken-same adds-owner y = his-area Owner true (y .passes 5)
+  taken-same removes-owner y = his-area Owner false (y .passes 5)
+  taken-same adds-structure y = same-structure s a b true p
+  taken-same removes-structure y = same-structure s a b false p
+  taken-same adds-definition y = his-area Definition true (y .passes 5)
+  taken-same removes-definition y = his-area Definition false (y .passes 5)
+  taken-same adds-import y = his-area Import true (y .passes 5)
+  taken-same removes-import y = his-area Import false (y .passes 5)
+  taken-same adds-export y = his-area Export true (y .passes 5)
+  taken-same removes-export y = his-area Export false (y .passes 5)
 
-pub step-same : (s : State) (bytes : Bytes) (p : ℕ) → T (listed s area p) → (T (owns s (bytes .activator) p) → ⊥) → Same s (stepOf s bytes .state) p
+pub step-same : (s : Site) (bytes : Bytes) (p : ℕ) → T (listed s area p) → (T (owns s (bytes .activator) p) → ⊥) → Same s (stepOf s bytes .state) p
 step-same s bytes p here silent = go (stepped s bytes)
   where
     go : (stepOf s bytes .state ≡ s) ⊎ Taken s bytes (stepOf s bytes .state) → Same s (stepOf s bytes .state) p
     go (inl e) = rw e (same-none s p)
-    go (inr y) = rw (y .2) (taken-same s (bytes .activator) (bytes .a) (bytes .b) p here silent (y .0) (y .1))
+    go (inr y) = rw (y .2) (taken-same s (bytes .activator) (bytes .a) (bytes .b) p here silent (row (y .0)) (y .1))
 
 -- ---- a list
 -- an area that keeps its owners is listed still
-pub listed-still : (s t : State) (p : ℕ) → Sound s → Sound t → Same s t p → T (listed s area p) → T (listed t area p)
+pub listed-still : (s t : Site) (p : ℕ) → Sound s → Sound t → Same s t p → T (listed s area p) → T (listed t area p)
 listed-still s t p h k same here =
     let o = h .acceptable .areas p here in k .consistent owner (o .0) p (subst T (sym (same .pairs owner (different owner structure tt) (o .0))) (o .1)) .second
 
-pub silent-still : (s t : State) (p : ℕ) → Same s t p → (l : List Bytes) → Silent s p l → Silent t p l
+pub silent-still : (s t : Site) (p : ℕ) → Same s t p → (l : List Bytes) → Silent s p l → Silent t p l
 silent-still s t p same [] silent-end = silent-end
 silent-still s t p same (bytes ∷ rest) (silent-next quiet others) =
     silent-next (λ o. quiet (subst T (same .pairs owner (different owner structure tt) (bytes .activator)) o)) (silent-still s t p same rest others)
 
-run-sound : (s : State) (l : List Bytes) → Sound s → Sound (run s l)
+run-sound : (s : Site) (l : List Bytes) → Sound s → Sound (run s l)
 unfolding run
 run-sound s [] h = h
 run-sound s (bytes ∷ rest) h = run-sound (stepOf s bytes .state) rest (step-sound s bytes h)
 
-run-same : (s : State) (l : List Bytes) (p : ℕ) → Sound s → T (listed s area p) → Silent s p l → Same s (run s l) p
+run-same : (s : Site) (l : List Bytes) (p : ℕ) → Sound s → T (listed s area p) → Silent s p l → Same s (run s l) p
 unfolding run
 run-same s [] p h here silent-end = same-none s p
 run-same s (bytes ∷ rest) p h here (silent-next quiet others) =

@@ -1,31 +1,35 @@
 -- An instruction that is accepted in a sound state gives a sound state.
 --     Accepted                 what it means that no check is met
---     accepted-sound           the claim, one clause a code
+--     accepted-sound           the claim, one clause a row
 -- Assumes nothing.
 use Prim.Native.Nat.{ℕ, _<_}
 use mathlib.Core.Path.{_≡_, refl, sym, subst, _∙_}
 use mathlib.Core.Logic.{_⊎_, inl, inr, ⊎-elim}
 use mathlib.Core.Bool.{Bool, true, false, _&&_, _||_, not}
+use mathlib.Core.List.{List, _∷_, _++_}
 use native.Mathlib.Decide.{ℕ-discrete}
 use lib.Dec.{T, eqb, ltb}
 use borrow.Author.Tests.{eqb-true, eq-eqb, ltb-true}
 use Rattle.state.specs.Site.{Kind, user, area, object, limit, listed, withListed, Relation, owner, definition, structure, import, export, firstKind, related, withPair, owns, defines, Shaped}
 use Rattle.state.specs.Walk.{someMember, somePair, hasFirst, hasSecond}
-use Rattle.state.specs.declared.State.{State}
+use Rattle.state.specs.Site.{Site}
 use Rattle.state.proofs.Bools.{is-true, holds, fails, and-both, and-left, and-right, not-so, so-not, so, neither, fails-both}
 use Rattle.state.proofs.Laws.{listed-same, listed-other, listed-else, list-shaped, unlist-adds-none, unlisted-gone, related-same, related-other, related-else, relate-shaped, add-keeps-pairs, remove-adds-none, removed-gone, others-stay, some-member, some-pair, has-first, has-second, listed-inside}
 use Rattle.access.specs.Lending.{lending}
 use Rattle.access.specs.Answer.{access}
 use Rattle.access.proofs.Laws.{access-is-defined}
 use Rattle.soundness.specs.Sound.{Named, DefinedOnce, Valid, Sound}
-use Rattle.soundness.specs.Tests.{isValid}
+use Rattle.soundness.specs.Tests.{isValid, isSound}
 use Rattle.soundness.proofs.Laws.{valid-decided}
-use Rattle.instructions.specs.Instructions.{theArea, rule}
-use Rattle.instructions.specs.Decode.{fits, inRange}
-use Rattle.successors.specs.Successor.{withoutOwner, successor}
-use Rattle.refusals.specs.Refusals.{missing, entitled, present, absent, soleOwner, onlyArea, isLast, otherOwner, inUse, isEntry, bearsAccess}
-use Rattle.instructions.specs.declared.Instruction.{Instruction}
-use Rattle.instructions.specs.declared.Instruction.the-variants.{ListArea, UnlistArea, AddOwner, RemoveOwner, AddStructure, RemoveStructure, Define, RemoveDefinition, AddImport, RemoveImport, AddExport, RemoveExport}
+use Rattle.instructions.specs.Decode.{fits}
+use Rattle.instructions.specs.declared.Target.the-variants.{TheArea}
+use Rattle.successors.specs.Successor.{withoutOwner, changed}
+use Rattle.state.specs.Checks.{Check, _when_, metAt}
+use Rattle.readings.specs.Readings.{seenOf}
+use Rattle.refusals.specs.Refusals.{soleOwner, onlyArea, otherOwner, inUse, earlyChecks, lateChecks}
+use Rattle.instructions.specs.declared.Rule.{Rule}
+use Rattle.guarantees.proofs.Rows.{Row, lists-area, unlists-area, adds-owner, removes-owner, adds-structure, removes-structure}
+use Rattle.guarantees.proofs.Rows.{adds-definition, removes-definition, adds-import, removes-import, adds-export, removes-export}
 use Rattle.guarantees.proofs.Parts.{different, different-kind, consistent-add, consistent-remove, consistent-list, Unnamed, consistent-unlist, consistent-without, once-same, acceptable-pair, acceptable-more, users-without, areas-without, valid-same, valid-add}
 
 -- ---- truth values of a check that is not met
@@ -42,20 +46,17 @@ none-of-six p q r t v w e =
     let e1 = neither p q (e2 .0) in
     (e1 .0, e1 .1, e2 .1, e3 .1, e4 .1, e5 .1)
 
--- the operands are in range, and no check is met
-pub record Accepted (s : State) (x : Instruction) (u a b : ℕ) : Type 0 where
-  pub in-range : T (inRange (fits (rule x .operand) b) u a)
-  pub known : not (listed s user u) ≡ false
-  pub named : missing s (rule x .lookup) a b ≡ false
-  pub owned : not (entitled s (rule x .mustOwn) u a b) ≡ false
-  pub new : rule x .adds && present s (rule x .target) a b ≡ false
-  pub there : not (rule x .adds) && absent s (rule x .target) a b ≡ false
-  pub not-last : not (rule x .adds) && isLast s (rule x .target) a b ≡ false
-  pub not-used : not (rule x .adds) && inUse s (rule x .target) u a ≡ false
-  pub reached : rule x .adds && isEntry (rule x .target) && not (access (lending (successor s x u a b) b) a) ≡ false
-  pub valid : not (rule x .adds) && bearsAccess (rule x .target) && not (isValid (successor s x u a b)) ≡ false
+-- the table of refusals for bytes that fit an instruction with this row
+abbrev pub table : Site → Rule → (u a b : ℕ) → List Check
+table s r u a b =
+    (12 when not (isSound s)) ∷ (1 when false) ∷ (2 when false) ∷ (earlyChecks (seenOf s u a b) r ++ lateChecks s r u a b)
 
-module _ (s : State) (h : Sound s) where
+-- the numbers are in range, and no condition is met, by its number
+pub record Accepted (s : Site) (r : Rule) (u a b : ℕ) : Type 0 where
+  pub in-range : T (ltb u (limit user) && ltb a (limit area) && fits (r .target) b)
+  pub passes : (n : ℕ) → metAt n (table s r u a b) ≡ false
+
+module _ (s : Site) (h : Sound s) where
   -- a number that is now listed is the new one, or was listed
   now-listed : (k : Kind) (i n : ℕ) → T (listed (withListed s k i true) k n) → (n ≡ i) ⊎ T (listed s k n)
   now-listed k i n t = go (listed-else s k k i n true)
@@ -65,7 +66,7 @@ module _ (s : State) (h : Sound s) where
       go (inr e) = inr (subst T e t)
 
   -- codes 1 and 3: a new owner pair, whose user or area is listed with it
-  abbrev owner-more : Kind → (i u a : ℕ) → State
+  abbrev owner-more : Kind → (i u a : ℕ) → Site
   owner-more k i u a = withPair (withListed s k i true) owner u a true
 
   owner-add : (k : Kind) (i u a : ℕ) → T (listed (withListed s k i true) user u) → T (listed (withListed s k i true) area a)
@@ -85,7 +86,7 @@ module _ (s : State) (h : Sound s) where
         valid = valid-same s (owner-more k i u a) (λ o. refl) (h .valid);
       }
     where
-      t : State
+      t : Site
       t = withListed s k i true
 
       sh : Shaped t
@@ -123,10 +124,10 @@ module _ (s : State) (h : Sound s) where
       go c t (no ne) = areas-without s u a (h .shaped) (h .consistent) (h .acceptable) c ne t
 
   -- code 2: the area that is unlisted is named by no pair
-  abbrev area-less : (u a : ℕ) → State
+  abbrev area-less : (u a : ℕ) → Site
   area-less u a = withListed (withoutOwner s u a) area a false
 
-  module _ (u a : ℕ) (e : inUse s theArea u a ≡ false) where
+  module _ (u a : ℕ) (e : inUse s TheArea u a ≡ false) where
     -- in the order of refusal 9
     unused : (otherOwner s u a ≡ false) × (hasSecond (s .definitions) a ≡ false) × (hasFirst (s .structure) a ≡ false) × (hasSecond (s .structure) a ≡ false)
         × (hasSecond (s .imports) a ≡ false) × (hasSecond (s .exports) a ≡ false)
@@ -168,7 +169,7 @@ module _ (s : State) (h : Sound s) where
       let ne : r .0 ≡ a → ⊥ = λ q. not-so (eqb (r .0) a) (r .2) (holds (eq-eqb (r .0) a q)) in
       (r .0, subst T (sym (listed-other (withoutOwner s u a) area a (r .0) false ne)) (r .1))
 
-  area-remove : (u a : ℕ) → onlyArea s a ≡ false → inUse s theArea u a ≡ false → Sound (area-less u a)
+  area-remove : (u a : ℕ) → onlyArea s a ≡ false → inUse s TheArea u a ≡ false → Sound (area-less u a)
   area-remove u a more e =
       record {
         shaped = list-shaped (withoutOwner s u a) area a false (shaped-without u a);
@@ -189,7 +190,7 @@ module _ (s : State) (h : Sound s) where
           areas-without s u a (h .shaped) (h .consistent) (h .acceptable) c ne (unlist-adds-none (withoutOwner s u a) area area a c t)
 
   -- code 7: a new object, defined in one area
-  abbrev object-more : (a b : ℕ) → State
+  abbrev object-more : (a b : ℕ) → Site
   object-more a b = withPair (withListed s object b true) definition b a true
 
   object-add : (a b : ℕ) → b < limit object → T (listed s area a) → listed s object b ≡ false → Sound (object-more a b)
@@ -202,7 +203,7 @@ module _ (s : State) (h : Sound s) where
         valid = valid-add t definition b a (λ e. absurd (no-entry e)) (valid-same s t (λ o. refl) (h .valid));
       }
     where
-      t : State
+      t : Site
       t = withListed s object b true
 
       sh : Shaped t
@@ -236,7 +237,7 @@ module _ (s : State) (h : Sound s) where
           (h .acceptable .objects o (before o ne (now-listed object b o q)))
 
   -- code 8: an object is no longer defined, and no entry of it is left
-  abbrev object-less : (a b : ℕ) → State
+  abbrev object-less : (a b : ℕ) → Site
   object-less a b = withPair (withListed s object b false) definition b a false
 
   object-remove : (a b : ℕ) → T (defines s b a) → Valid (object-less a b) → Sound (object-less a b)
@@ -251,7 +252,7 @@ module _ (s : State) (h : Sound s) where
         valid = v;
       }
     where
-      t : State
+      t : Site
       t = withPair s definition b a false
 
       sh : Shaped t
@@ -326,25 +327,25 @@ module _ (s : State) (h : Sound s) where
   below : (n m : ℕ) → T (ltb n m) → n < m
   below n m t = ltb-true n m (is-true (ltb n m) t)
 
-  pub accepted-sound : (x : Instruction) (u a b : ℕ) → Accepted s x u a b → Sound (successor s x u a b)
-  accepted-sound ListArea u a b y =
+  pub accepted-sound : {r : Rule} → Row r → (u a b : ℕ) → Accepted s r u a b → Sound (changed s (r .target) (r .adds) u a b)
+  accepted-sound lists-area u a b y =
       let ha = holds (listed-same s area a true (h .shaped) (below a (limit area) (in-range (ltb u (limit user)) (ltb a (limit area)) (eqb b 0) (y .in-range) .0))) in
-      owner-add area a u a (so (listed s user u) (y .known)) ha (λ v t. inr t) (λ c t. now-listed area a c t) (λ o t. t)
-  accepted-sound UnlistArea u a b y = area-remove u a (y .not-last) (y .not-used)
-  accepted-sound AddOwner u a b y =
+      owner-add area a u a (so (listed s user u) (y .passes 3)) ha (λ v t. inr t) (λ c t. now-listed area a c t) (λ o t. t)
+  accepted-sound unlists-area u a b y = area-remove u a (y .passes 8) (y .passes 9)
+  accepted-sound adds-owner u a b y =
       let hb = holds (listed-same s user b true (h .shaped) (below b (limit user) (in-range (ltb u (limit user)) (ltb a (limit area)) (ltb b (limit user)) (y .in-range) .1))) in
-      owner-add user b b a hb (so (listed s area a) (y .named)) (λ v t. now-listed user b v t) (λ c t. inr t) (λ o t. t)
-  accepted-sound RemoveOwner u a b y = owner-remove b a (y .not-last)
-  accepted-sound AddStructure u a b y =
-      let n = both-so (listed s area a) (listed s area b) (y .named) in
+      owner-add user b b a hb (so (listed s area a) (y .passes 4)) (λ v t. now-listed user b v t) (λ c t. inr t) (λ o t. t)
+  accepted-sound removes-owner u a b y = owner-remove b a (y .passes 8)
+  accepted-sound adds-structure u a b y =
+      let n = both-so (listed s area a) (listed s area b) (y .passes 4) in
       pair-add structure (different owner structure tt) (different definition structure tt) a b (record { first = n .0; second = n .1 })
       (λ e. ⊎-elim (λ q. absurd (different import structure tt q)) (λ q. absurd (different export structure tt q)) e)
-  accepted-sound RemoveStructure u a b y = valid-cut structure (different owner structure tt) (different definition structure tt) a b (y .valid)
-  accepted-sound Define u a b y =
-      object-add a b (below b (limit object) (in-range (ltb u (limit user)) (ltb a (limit area)) (ltb b (limit object)) (y .in-range) .1)) (so (listed s area a) (y .named)) (y .new)
-  accepted-sound RemoveDefinition u a b y =
-      object-remove a b (so (defines s b a) (y .there)) (valid-decided (object-less a b) .0 (so (isValid (object-less a b)) (y .valid)))
-  accepted-sound AddImport u a b y = entry-add import (different owner import tt) (different definition import tt) refl a b (y .named) (y .reached)
-  accepted-sound RemoveImport u a b y = valid-cut import (different owner import tt) (different definition import tt) b a (y .valid)
-  accepted-sound AddExport u a b y = entry-add export (different owner export tt) (different definition export tt) refl a b (y .named) (y .reached)
-  accepted-sound RemoveExport u a b y = valid-cut export (different owner export tt) (different definition export tt) b a (y .valid)
+  accepted-sound removes-structure u a b y = valid-cut structure (different owner structure tt) (different definition structure tt) a b (y .passes 11)
+  accepted-sound adds-definition u a b y =
+      object-add a b (below b (limit object) (in-range (ltb u (limit user)) (ltb a (limit area)) (ltb b (limit object)) (y .in-range) .1)) (so (listed s area a) (y .passes 4)) (y .passes 6)
+  accepted-sound removes-definition u a b y =
+      object-remove a b (so (defines s b a) (y .passes 7)) (valid-decided (object-less a b) .0 (so (isValid (object-less a b)) (y .passes 11)))
+  accepted-sound adds-import u a b y = entry-add import (different owner import tt) (different definition import tt) refl a b (y .passes 4) (y .passes 10)
+  accepted-sound removes-import u a b y = valid-cut import (different owner import tt) (different definition import tt) b a (y .passes 11)
+  accepted-sound adds-export u a b y = entry-add export (different owner export tt) (different definition export tt) refl a b (y .passes 4) (y .passes 10)
+  accepted-sound removes-export u a b y = valid-cut export (different owner export tt) (different definition export tt) b a (y .passes 11)

@@ -10,7 +10,7 @@ use lib.Dec.{T, eqb}
 use borrow.Author.Tests.{eq-eqb}
 use Rattle.state.specs.Site.{Kind, user, area, object, kindNumber, listed, withListed, Relation, owner, definition, structure, import, export, firstKind, related, relationNumber, withPair, owns, defines, Shaped}
 use Rattle.state.specs.Walk.{hasFirst}
-use Rattle.state.specs.declared.State.{State}
+use Rattle.state.specs.Site.{Site}
 use Rattle.state.proofs.Bools.{and-both, and-right, holds, fails}
 use Rattle.state.proofs.Laws.{listed-other, listed-else, list-keeps-listed, unlisted-gone, list-keeps-pairs, related-other-relation, relate-shaped, related-else, relate-keeps-lists, remove-adds-none, others-stay, has-first}
 use Rattle.access.specs.Lending.{Lending, lending}
@@ -29,31 +29,31 @@ pub different-kind : (k l : Kind) → T (not (eqb (kindNumber k) (kindNumber l))
 different-kind k l n e = subst (λ (b : Bool). T (not b)) (eq-eqb (kindNumber k) (kindNumber l) (ap kindNumber e)) n
 
 -- ---- consistent
-named-relate : (s : State) (r : Relation) (i j : ℕ) (v : Bool) (t : Relation) (m n : ℕ) → Named s t m n → Named (withPair s r i j v) t m n
+named-relate : (s : Site) (r : Relation) (i j : ℕ) (v : Bool) (t : Relation) (m n : ℕ) → Named s t m n → Named (withPair s r i j v) t m n
 named-relate s r i j v t m n d =
     record { first = subst T (sym (relate-keeps-lists s r i j v (firstKind t) m)) (d .first); second = subst T (sym (relate-keeps-lists s r i j v area n)) (d .second) }
 
-pub consistent-add : (s : State) (r : Relation) (i j : ℕ) → Consistent s → Named s r i j → Consistent (withPair s r i j true)
+pub consistent-add : (s : Site) (r : Relation) (i j : ℕ) → Consistent s → Named s r i j → Consistent (withPair s r i j true)
 consistent-add s r i j c new t m n h = go (related-else s r t i j m n true)
   where
     go : ((t ≡ r) × (m ≡ i) × (n ≡ j)) ⊎ (related (withPair s r i j true) t m n ≡ related s t m n) → Named (withPair s r i j true) t m n
     go (inl e) = rw (e .0, e .1, e .2) (named-relate s r i j true r i j new)
     go (inr e) = named-relate s r i j true t m n (c t m n (subst T e h))
 
-pub consistent-remove : (s : State) (r : Relation) (i j : ℕ) → Consistent s → Consistent (withPair s r i j false)
+pub consistent-remove : (s : Site) (r : Relation) (i j : ℕ) → Consistent s → Consistent (withPair s r i j false)
 consistent-remove s r i j c t m n h = named-relate s r i j false t m n (c t m n (remove-adds-none s r t i j m n h))
 
-pub consistent-list : (s : State) (k : Kind) (i : ℕ) → Consistent s → Consistent (withListed s k i true)
+pub consistent-list : (s : Site) (k : Kind) (i : ℕ) → Consistent s → Consistent (withListed s k i true)
 consistent-list s k i c t m n h =
     let d = c t m n (subst T (list-keeps-pairs s k i true t m n) h) in
     record { first = list-keeps-listed s k (firstKind t) i m (d .first); second = list-keeps-listed s k area i n (d .second) }
 
 -- no pair names number i of kind k
-pub record Unnamed (s : State) (k : Kind) (i : ℕ) : Type 0 where
+pub record Unnamed (s : Site) (k : Kind) (i : ℕ) : Type 0 where
   pub not-first : (t : Relation) (n : ℕ) → firstKind t ≡ k → T (related s t i n) → ⊥
   pub not-second : (t : Relation) (m : ℕ) → area ≡ k → T (related s t m i) → ⊥
 
-pub consistent-unlist : (s : State) (k : Kind) (i : ℕ) (v : Bool) → Consistent s → Unnamed s k i → Consistent (withListed s k i v)
+pub consistent-unlist : (s : Site) (k : Kind) (i : ℕ) (v : Bool) → Consistent s → Unnamed s k i → Consistent (withListed s k i v)
 consistent-unlist s k i v c unnamed t m n h =
     record { first = go (firstKind t) m first (d .first); second = go area n second (d .second) }
   where
@@ -85,8 +85,8 @@ user-first import e = absurd (different-kind object user tt e)
 user-first export e = absurd (different-kind object user tt e)
 
 -- A user who lost an area is listed afterwards exactly where he owns an area: he is unlisted at the last one only.
-module _ (s : State) (u a : ℕ) (c : Consistent s) where
-  abbrev after : State
+module _ (s : Site) (u a : ℕ) (c : Consistent s) where
+  abbrev after : Site
   after = withPair s owner u a false
 
   abbrev keeps : Bool
@@ -114,12 +114,12 @@ module _ (s : State) (u a : ℕ) (c : Consistent s) where
 
 -- ---- acceptable
 -- definitions that stay
-pub once-same : (s t : State) (o : ℕ) → ((a : ℕ) → defines t o a ≡ defines s o a) → DefinedOnce s o → DefinedOnce t o
+pub once-same : (s t : Site) (o : ℕ) → ((a : ℕ) → defines t o a ≡ defines s o a) → DefinedOnce s o → DefinedOnce t o
 once-same s t o e d =
     record { place = d .place; defined = subst T (sym (e (d .place))) (d .defined); only = λ a h. d .only a (subst T (e a) h) }
 
 -- a pair that is neither an owner nor a definition pair
-pub acceptable-pair : (s : State) (r : Relation) (i j : ℕ) (v : Bool) → (owner ≡ r → ⊥) → (definition ≡ r → ⊥) → Acceptable s → Acceptable (withPair s r i j v)
+pub acceptable-pair : (s : Site) (r : Relation) (i j : ℕ) (v : Bool) → (owner ≡ r → ⊥) → (definition ≡ r → ⊥) → Acceptable s → Acceptable (withPair s r i j v)
 acceptable-pair s r i j v no-owner no-definition acc =
     record {
       users = λ u h. let d = acc .users u (before user u h) in (d .0, stays u (d .0) (d .1));
@@ -134,7 +134,7 @@ acceptable-pair s r i j v no-owner no-definition acc =
     stays u c h = subst T (sym (related-other-relation s r owner i j u c v no-owner)) h
 
 -- more owner pairs, and more listed: the owner and the area of a new pair
-pub acceptable-more : (s t : State) (u a : ℕ) → Acceptable s → T (owns t u a) → ((v c : ℕ) → T (owns s v c) → T (owns t v c))
+pub acceptable-more : (s t : Site) (u a : ℕ) → Acceptable s → T (owns t u a) → ((v c : ℕ) → T (owns s v c) → T (owns t v c))
     → ((v : ℕ) → T (listed t user v) → (v ≡ u) ⊎ T (listed s user v)) → ((c : ℕ) → T (listed t area c) → (c ≡ a) ⊎ T (listed s area c))
     → ((o : ℕ) → T (listed t object o) → DefinedOnce t o) → Acceptable t
 acceptable-more s t u a acc new kept new-user new-area objects =
@@ -149,8 +149,8 @@ acceptable-more s t u a acc new kept new-user new-area objects =
     from-area c (inr h) = let d = acc .areas c h in (d .0, kept (d .0) c (d .1))
 
 -- the users and the areas after user u lost area a
-module _ (s : State) (u a : ℕ) (shaped : Shaped s) (c : Consistent s) (acc : Acceptable s) where
-  abbrev less : State
+module _ (s : Site) (u a : ℕ) (shaped : Shaped s) (c : Consistent s) (acc : Acceptable s) where
+  abbrev less : Site
   less = withoutOwner s u a
 
   pub users-without : (v : ℕ) → T (listed less user v) → (n : ℕ) × T (owns less v n)
@@ -173,7 +173,7 @@ module _ (s : State) (u a : ℕ) (shaped : Shaped s) (c : Consistent s) (acc : A
   areas-without d ne h = let o = acc .areas d h in (o .0, others-stay s owner owner u a (o .0) d false (λ r q n. ne n) (o .1))
 
 -- ---- valid
-pub valid-same : (s t : State) → ((o : ℕ) → lending t o ≡ lending s o) → Valid s → Valid t
+pub valid-same : (s t : Site) → ((o : ℕ) → lending t o ≡ lending s o) → Valid s → Valid t
 valid-same s t e v =
     record {
       imported = λ o a. subst (λ (l : Lending). T (l .importedBy a) → T (access l a)) (sym (e o)) (v .imported o a);
@@ -181,14 +181,14 @@ valid-same s t e v =
     }
 
 -- one pair more: if it is an entry, its area must have access
-pub valid-add : (s : State) (r : Relation) (i j : ℕ) → ((import ≡ r) ⊎ (export ≡ r) → T (access (lending (withPair s r i j true) i) j)) → Valid s → Valid (withPair s r i j true)
+pub valid-add : (s : Site) (r : Relation) (i j : ℕ) → ((import ≡ r) ⊎ (export ≡ r) → T (access (lending (withPair s r i j true) i) j)) → Valid s → Valid (withPair s r i j true)
 valid-add s r i j new v =
     record {
       imported = λ o a h. go import o a inl (λ t. v .imported o a t) h (related-else s r import i j o a true);
       exported = λ o a h. go export o a inr (λ t. v .exported o a t) h (related-else s r export i j o a true);
     }
   where
-    t : State
+    t : Site
     t = withPair s r i j true
 
     go : (e : Relation) (o a : ℕ) → (e ≡ r → (import ≡ r) ⊎ (export ≡ r)) → (T (related s e o a) → T (access (lending s o) a)) → T (related t e o a)

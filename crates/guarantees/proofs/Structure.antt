@@ -9,35 +9,34 @@ use mathlib.Core.Bool.{true, false}
 use mathlib.Core.List.{List, [], _∷_}
 use lib.Dec.{T}
 use Rattle.state.specs.Site.{area, listed, structure, withPair, owns, inside}
-use Rattle.state.specs.declared.State.{State}
+use Rattle.state.specs.Site.{Site}
 use Rattle.state.proofs.Bools.{or-cases, so}
 use Rattle.state.proofs.Laws.{related-else, add-keeps-pairs, remove-adds-none}
 use Rattle.soundness.specs.Sound.{Sound}
 use Rattle.instructions.specs.Instructions.{Bytes}
-use Rattle.successors.specs.Successor.{successor}
+use Rattle.successors.specs.Successor.{changed}
+use Rattle.readings.specs.Readings.{seenOf}
 use Rattle.refusals.specs.Refusals.{mayCut}
 use Rattle.machine.specs.Step.{stepOf, run}
 use Rattle.guarantees.specs.Demand3.{Silent, silent-next}
 use Rattle.guarantees.specs.Structure
-use Rattle.instructions.specs.declared.Instruction.{Instruction}
-use Rattle.instructions.specs.declared.Instruction.the-variants.{ListArea, UnlistArea, AddOwner, RemoveOwner}
-use Rattle.instructions.specs.declared.Instruction.the-variants.{AddStructure, RemoveStructure}
-use Rattle.instructions.specs.declared.Instruction.the-variants.{Define, RemoveDefinition, AddImport, RemoveImport}
-use Rattle.instructions.specs.declared.Instruction.the-variants.{AddExport, RemoveExport}
+use Rattle.instructions.specs.declared.Rule.{Rule}
+use Rattle.guarantees.proofs.Rows.{Row, row, lists-area, unlists-area, adds-owner, removes-owner, adds-structure, removes-structure}
+use Rattle.guarantees.proofs.Rows.{adds-definition, removes-definition, adds-import, removes-import, adds-export, removes-export}
 use Rattle.guarantees.proofs.Kept.{both-so, Accepted}
 use Rattle.guarantees.proofs.Demand3.{Taken, stepped, step-sound, step-same, listed-still, silent-still}
 
 -- ---- one step
 -- The structure pair (p, q) in the state t that an instruction of user u gives from s: it is as before, or it may have
 -- been added and u owns both areas, or it may have been removed and u owns either.
-data PairChange (s t : State) (u p q : ℕ) : Type 0 where
+data PairChange (s t : Site) (u p q : ℕ) : Type 0 where
   as-before : inside t p q ≡ inside s p q → PairChange s t u p q
   added : T (owns s u p) × T (owns s u q) → (T (inside s p q) → T (inside t p q)) → PairChange s t u p q
   removed : T (owns s u p) ⊎ T (owns s u q) → (T (inside t p q) → T (inside s p q)) → PairChange s t u p q
 
-module _ (s : State) (u a b p q : ℕ) where
+module _ (s : Site) (u a b p q : ℕ) where
   -- (p, q) is the pair (a, b) that is written, or it is as before
-  abbrev Written : State → Type 0
+  abbrev Written : Site → Type 0
   Written t = ((structure ≡ structure) × (p ≡ a) × (q ≡ b)) ⊎ (inside t p q ≡ inside s p q)
 
   add : T (owns s u a) × T (owns s u b) → Written (withPair s structure a b true)
@@ -50,39 +49,39 @@ module _ (s : State) (u a b p q : ℕ) where
   remove either (inl e) = rw (e .1, e .2) (removed either (remove-adds-none s structure structure a b a b))
   remove either (inr e) = as-before e
 
-  taken-pair : (x : Instruction) → Accepted s x u a b → PairChange s (successor s x u a b) u p q
-  taken-pair ListArea y = as-before refl
-  taken-pair UnlistArea y = as-before refl
-  taken-pair AddOwner y = as-before refl
-  taken-pair RemoveOwner y = as-before refl
-  taken-pair AddStructure y =
-      add (both-so (owns s u a) (owns s u b) (y .owned)) (related-else s structure structure a b p q true)
-  taken-pair RemoveStructure y =
-      remove (or-cases (owns s u a) (owns s u b) (so (mayCut s u a b) (y .owned)))
+  taken-pair : {r : Rule} → Row r → Accepted s r u a b → PairChange s (changed s (r .target) (r .adds) u a b) u p q
+  taken-pair lists-area y = as-before refl
+  taken-pair unlists-area y = as-before refl
+  taken-pair adds-owner y = as-before refl
+  taken-pair removes-owner y = as-before refl
+  taken-pair adds-structure y =
+      add (both-so (owns s u a) (owns s u b) (y .passes 5)) (related-else s structure structure a b p q true)
+  taken-pair removes-structure y =
+      remove (or-cases (owns s u a) (owns s u b) (so (mayCut (seenOf s u a b)) (y .passes 5)))
       (related-else s structure structure a b p q false)
-  taken-pair Define y = as-before refl
-  taken-pair RemoveDefinition y = as-before refl
-  taken-pair AddImport y = as-before refl
-  taken-pair RemoveImport y = as-before refl
-  taken-pair AddExport y = as-before refl
-  taken-pair RemoveExport y = as-before refl
+  taken-pair adds-definition y = as-before refl
+  taken-pair removes-definition y = as-before refl
+  taken-pair adds-import y = as-before refl
+  taken-pair removes-import y = as-before refl
+  taken-pair adds-export y = as-before refl
+  taken-pair removes-export y = as-before refl
 
-step-pair : (s : State) (bytes : Bytes) (p q : ℕ) → PairChange s (stepOf s bytes .state) (bytes .activator) p q
+step-pair : (s : Site) (bytes : Bytes) (p q : ℕ) → PairChange s (stepOf s bytes .state) (bytes .activator) p q
 step-pair s bytes p q = go (stepped s bytes)
   where
     go : (stepOf s bytes .state ≡ s) ⊎ Taken s bytes (stepOf s bytes .state)
         → PairChange s (stepOf s bytes .state) (bytes .activator) p q
     go (inl e) = rw e (as-before refl)
-    go (inr y) = rw (y .2) (taken-pair s (bytes .activator) (bytes .a) (bytes .b) p q (y .0) (y .1))
+    go (inr y) = rw (y .2) (taken-pair s (bytes .activator) (bytes .a) (bytes .b) p q (row (y .0)) (y .1))
 
 -- A user who does not own both areas adds no pair of them, and one who owns neither removes none.
-not-added : {s t : State} {u p q : ℕ} → PairChange s t u p q → (T (owns s u p) × T (owns s u q) → ⊥)
+not-added : {s t : Site} {u p q : ℕ} → PairChange s t u p q → (T (owns s u p) × T (owns s u q) → ⊥)
     → T (inside t p q) → T (inside s p q)
 not-added (as-before e) lacks i = subst T e i
 not-added (added both k) lacks i = absurd (lacks both)
 not-added (removed either k) lacks i = k i
 
-not-removed : {s t : State} {u p q : ℕ} → PairChange s t u p q → (T (owns s u p) → ⊥) → (T (owns s u q) → ⊥)
+not-removed : {s t : Site} {u p q : ℕ} → PairChange s t u p q → (T (owns s u p) → ⊥) → (T (owns s u q) → ⊥)
     → T (inside s p q) → T (inside t p q)
 not-removed (as-before e) inner outer i = subst T (sym e) i
 not-removed (added both k) inner outer i = k i
@@ -91,12 +90,12 @@ not-removed (removed (inr o) k) inner outer i = absurd (outer o)
 
 -- ---- a list
 -- An area that is listed and silent is so after the first instruction too, whose activator does not own it.
-record Onward (s : State) (bytes : Bytes) (rest : List Bytes) (p : ℕ) : Type 0 where
+record Onward (s : Site) (bytes : Bytes) (rest : List Bytes) (p : ℕ) : Type 0 where
   quiet : T (owns s (bytes .activator) p) → ⊥
   here : T (listed (stepOf s bytes .state) area p)
   silent : Silent (stepOf s bytes .state) p rest
 
-onward : (s : State) (bytes : Bytes) (rest : List Bytes) → Sound s → (p : ℕ) → T (listed s area p)
+onward : (s : Site) (bytes : Bytes) (rest : List Bytes) → Sound s → (p : ℕ) → T (listed s area p)
     → Silent s p (bytes ∷ rest) → Onward s bytes rest p
 onward s bytes rest h p here (silent-next quiet others) =
     let t = stepOf s bytes .state in

@@ -8,7 +8,7 @@ use mathlib.Core.Path.{_≡_}
 use mathlib.Core.List.{List, [], _∷_}
 use lib.Dec.{T}
 use Rattle.state.specs.Site.{area, listed, owns, defines, imports, exports}
-use Rattle.state.specs.declared.State.{State}
+use Rattle.state.specs.Site.{Site}
 use Rattle.access.specs.Lending.{lending}
 use Rattle.access.specs.Answer.{access}
 use Rattle.soundness.specs.Sound.{Sound}
@@ -17,7 +17,7 @@ use Rattle.machine.specs.Step.{run}
 
 -- None of the owners that area p has in s activates an instruction of the list. "An area's owners at the start are the
 -- users in its owner pairs there; an instruction's activator is its second byte, in a refused one too."
-pub data Silent (s : State) (p : ℕ) : List Bytes → Type 0 where
+pub data Silent (s : Site) (p : ℕ) : List Bytes → Type 0 where
   silent-end : Silent s p []
   silent-next : {bytes : Bytes} {rest : List Bytes} → (T (owns s (bytes .activator) p) → ⊥) → Silent s p rest
       → Silent s p (bytes ∷ rest)
@@ -26,7 +26,7 @@ pub data Silent (s : State) (p : ℕ) : List Bytes → Type 0 where
 -- guarantee": for area p, from the state s to the state t after the list. "The area's owner, definition, import and
 -- export pairs after the list are the same sets as at the start. An object can be traced to an area if, in the state
 -- after the list, the area has access to it."
-pub record LendingGuarantee (s t : State) (p : ℕ) : Type 0 where
+pub record LendingGuarantee (s t : Site) (p : ℕ) : Type 0 where
   pub still-listed : T (listed t area p)
   pub owners : (u : ℕ) → owns t u p ≡ owns s u p
   pub objects : (o : ℕ) → defines t o p ≡ defines s o p
@@ -36,9 +36,9 @@ pub record LendingGuarantee (s t : State) (p : ℕ) : Type 0 where
   pub traced-exports : (o : ℕ) → T (exports s o p) → T (access (lending t o) p)
 
 -- what is claimed of the state t after a list l from s
-pub record Upheld (s : State) (l : List Bytes) (t : State) : Type 0 where
+pub record Upheld (s : Site) (l : List Bytes) (t : Site) : Type 0 where
   pub sound : Sound t
   pub lending-guarantee : (p : ℕ) → T (listed s area p) → Silent s p l → LendingGuarantee s t p
 
 abbrev pub Demand3 : Type 0
-Demand3 = (s : State) (l : List Bytes) → Sound s → Upheld s l (run s l)
+Demand3 = (s : Site) (l : List Bytes) → Sound s → Upheld s l (run s l)

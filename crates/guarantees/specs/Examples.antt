@@ -4,7 +4,7 @@ use Prim.Native.Nat.{ℕ}
 use mathlib.Core.Path.{_≡_}
 use mathlib.Core.List.{List, [], _∷_, map}
 use Rattle.state.specs.Site.{founding, counts}
-use Rattle.state.specs.declared.State.{State}
+use Rattle.state.specs.Site.{Site}
 use Rattle.instructions.specs.Instructions.{Bytes, fourBytes}
 use Rattle.machine.specs.Step.{stepOf, run}
 
@@ -65,7 +65,7 @@ abbrev pub sessionCounts : List ℕ
 sessionCounts = 2 ∷ 3 ∷ 1 ∷ 4 ∷ 1 ∷ 0 ∷ 1 ∷ []
 
 -- the numbers that instructions get, one after the other, from s on
-unfoldable pub numbersFrom : State → List Entry → List ℕ
+unfoldable pub numbersFrom : Site → List Entry → List ℕ
 numbersFrom s [] = []
 numbersFrom s (x ∷ rest) = stepOf s (x .bytes) .refusal ∷ numbersFrom (stepOf s (x .bytes) .state) rest
 

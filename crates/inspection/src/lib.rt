@@ -7,11 +7,11 @@ ghost use lib.ListN.{length};
 ghost use Rattle.state.specs.Below.{eachBelow, countBelow};
 ghost use Rattle.access.specs.Answer.{has};
 ghost use Rattle.soundness.specs.Sound.{Sound};
-ghost use mathlib.Core.Bool.{_&&_};
-ghost use Rattle.state.specs.Site.{recordOf};
+ghost use Rattle.state.specs.Site.{area, members};
+ghost use Rattle.state.specs.Stands.{site};
 ghost use Rattle.soundness.specs.Tests.{named, allOwn, allOwned, allDefined, someListed};
 ghost use Rattle.soundness.specs.Tests.{isConsistent, isAcceptable, isWellFormed, isSound};
-ghost use Rattle.inspection.specs.Parts.{cellNamed, RowsFit};
+ghost use Rattle.inspection.specs.Parts.{cellNamed};
 use state::State;
 
 // Does each pair of the row that starts at `from` name an area of the set, and is there none unless the row's own
@@ -80,7 +80,7 @@ fn all_defined<'a>(set: [bool; 64], pairs: &'a [bool]) -> bool
 }
 
 // Has the set a number at all?
-pub fn has_member(set: &[bool]) -> bool
+fn has_member(set: &[bool]) -> bool
     ensures { λ r. ⌜ r ≡ someListed (now (set .entry)) ⌝ }
 {
     for i in 0..set.len() {
@@ -91,77 +91,41 @@ pub fn has_member(set: &[bool]) -> bool
     false
 }
 
-// Is whatever a pair names listed? The sets and relations of a record, lent.
-fn are_consistent<'a>(
-    users: &'a [bool],
-    areas: [bool; 32],
-    objects: &'a [bool],
-    owners: &'a [bool],
-    definitions: &'a [bool],
-    structure: &'a [bool],
-    imports: &'a [bool],
-    exports: &'a [bool],
-) -> bool
-    requires { ⌜ RowsFit (now users) areas (now objects) (now owners) (now definitions) (now structure)
-        (now imports) (now exports) ⌝ }
-    ensures { λ r. ⌜ r ≡ isConsistent (recordOf (now (users .entry)) areas (now (objects .entry)) (now (owners .entry))
-        (now (definitions .entry)) (now (structure .entry)) (now (imports .entry)) (now (exports .entry))) ⌝ }
-{
-    let inner = areas;
-    all_named(owners, users, areas)
-        & all_named(definitions, objects, areas)
-        & all_named(structure, &inner, areas)
-        & all_named(imports, objects, areas)
-        & all_named(exports, objects, areas)
-}
-
-// Is the record consistent?
+// Is whatever a pair names listed?
 fn is_consistent(s: State) -> bool
-    ensures { λ r. ⌜ r ≡ isConsistent s ⌝ }
+    ensures { λ r. ⌜ r ≡ isConsistent (site s) ⌝ }
 {
     let areas = s.areas;
-    are_consistent(
-        &s.users,
-        areas,
-        &s.objects,
-        &s.owners,
-        &s.definitions,
-        &s.structure,
-        &s.imports,
-        &s.exports,
-    )
+    let inner = s.areas;
+    all_named(&s.owners, &s.users, areas)
+        & all_named(&s.definitions, &s.objects, areas)
+        & all_named(&s.structure, &inner, areas)
+        & all_named(&s.imports, &s.objects, areas)
+        & all_named(&s.exports, &s.objects, areas)
 }
 
 // Does every listed user own an area, has every listed area an owner, and is every listed object defined in exactly one
-// area? The sets and relations of a record, lent.
-fn are_acceptable<'a>(
-    users: [bool; 32],
-    areas: [bool; 32],
-    objects: [bool; 64],
-    owners: &'a [bool; 1024],
-    definitions: &'a [bool],
-) -> bool
-    requires { ⌜ length (now owners) ≡ 1024 ⌝ }
-    ensures { λ r. ⌜ r ≡ (allOwn users (now (owners .entry)) && allOwned areas (now (owners .entry))
-        && allDefined objects (now (definitions .entry))) ⌝ }
-{
-    let turned = rows::transposed(owners);
-    all_own(users, owners) & all_own(areas, &turned) & all_defined(objects, definitions)
-}
-
-// Is the record acceptable?
+// area?
 fn is_acceptable(s: State) -> bool
-    ensures { λ r. ⌜ r ≡ isAcceptable s ⌝ }
+    ensures { λ r. ⌜ r ≡ isAcceptable (site s) ⌝ }
 {
     let users = s.users;
     let areas = s.areas;
     let objects = s.objects;
-    are_acceptable(users, areas, objects, &s.owners, &s.definitions)
+    let turned = rows::transposed(&s.owners);
+    all_own(users, &s.owners) & all_own(areas, &turned) & all_defined(objects, &s.definitions)
+}
+
+// Has the record an area at all?
+pub fn has_area(s: State) -> bool
+    ensures { λ r. ⌜ r ≡ someListed (members (site s) area) ⌝ }
+{
+    has_member(&s.areas)
 }
 
 // Is the record sound but for validity: consistent, acceptable, with at least one area?
 pub fn is_well_formed(s: State) -> bool
-    ensures { λ r. ⌜ r ≡ isWellFormed s ⌝ }
+    ensures { λ r. ⌜ r ≡ isWellFormed (site s) ⌝ }
 {
     if !is_consistent(s) {
         return false;
@@ -169,13 +133,13 @@ pub fn is_well_formed(s: State) -> bool
     if !is_acceptable(s) {
         return false;
     }
-    has_member(&s.areas)
+    has_area(s)
 }
 
 // Is the record sound? Any content may be asked about.
 pub fn is_sound(s: State) -> bool
-    ensures equation { λ r. ⌜ r ≡ isSound s ⌝ }
-    ensures meaning { λ r. ⌜ T r ↔ Sound s ⌝ }
+    ensures equation { λ r. ⌜ r ≡ isSound (site s) ⌝ }
+    ensures meaning { λ r. ⌜ T r ↔ Sound (site s) ⌝ }
 {
     if !is_well_formed(s) {
         return false;

@@ -11,8 +11,8 @@ use lib.Dec.{T}
 use lib.ListN.{length}
 use Rattle.state.proofs.Bools.{holds, is-true}
 use Rattle.state.proofs.Checks.{met, passed, none-met}
-use Rattle.instructions.specs.Instructions.{Bytes, rule, Picked, unknown, instruction, instructions, pick, instructionOf}
-use Rattle.instructions.specs.Decode.{fits, inRange, decodedAs, decodedNumber}
+use Rattle.instructions.specs.Instructions.{Bytes, Picked, unknown, instruction, instructions, pick, instructionOf}
+use Rattle.instructions.specs.Decode.{inRange, decodedAs, decodedNumber}
 use Rattle.instructions.specs.Claims
 use Rattle.instructions.specs.Claims.{Fitting}
 use Rattle.instructions.specs.declared.Instruction.{Instruction}
@@ -40,7 +40,7 @@ pub no-code-exactly : Claims.NoCodeExactly
 no-code-exactly zero = (λ e. inl refl, λ s. refl)
 no-code-exactly (suc n) = (λ e. let h = within instructions n e in inr (omega arith), λ s. past instructions n (above s))
   where
-    above : (suc n ≡ 0) ⊎ (12 < suc n) → 12 ≤ n
+    above : (suc n ≡ 0) ⊎ (length instructions < suc n) → length instructions ≤ n
     above (inl e) = absurd (omega arith)
     above (inr h) = omega arith
 
@@ -59,7 +59,7 @@ fitting OutOfRange = ListArea
 
 module _ (bytes : Bytes) (x : Instruction) where
   abbrev ranged : Instruction → Bool
-  ranged y = inRange (fits (rule y .operand) (bytes .b)) (bytes .activator) (bytes .a)
+  ranged y = inRange y (bytes .activator) (bytes .a) (bytes .b)
 
   there : (p : Picked) → decodedAs bytes p ≡ Fits x → (p ≡ instruction x) × T (ranged x)
   unfolding fitting

@@ -1,3 +1,2 @@
--- Laws has the claims of specs/. Arms serves the functions of `refusals` that match on an instruction.
-pub mod Arms
+-- Laws has the claims of specs/.
 pub mod Laws

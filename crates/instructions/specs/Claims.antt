@@ -4,8 +4,8 @@ use mathlib.Core.Path.{_≡_}
 use mathlib.Core.Logic.{_⊎_, _↔_}
 use lib.Dec.{T}
 use Rattle.state.specs.Checks.{firstMet}
-use Rattle.instructions.specs.Instructions.{Bytes, rule, unknown, instruction, instructionOf}
-use Rattle.instructions.specs.Decode.{fits, inRange, decodeOf, decodedNumber, misfits}
+use Rattle.instructions.specs.Instructions.{Bytes, unknown, instruction, instructionOf}
+use Rattle.instructions.specs.Decode.{inRange, decodeOf, decodedNumber, misfits}
 use Rattle.instructions.specs.declared.Instruction.{Instruction}
 use Rattle.instructions.specs.declared.Decoded.{Decoded}
 use Rattle.instructions.specs.declared.Decoded.the-variants.{Fits}
@@ -21,7 +21,7 @@ DecodedByTable = (decoded : Decoded) → decodedNumber decoded ≡ firstMet (mis
 -- the bytes fit an instruction: their code picks it, and they are in range for it
 pub record Fitting (bytes : Bytes) (x : Instruction) : Type 0 where
   pub picked : instructionOf (bytes .code) ≡ instruction x
-  pub in-range : T (inRange (fits (rule x .operand) (bytes .b)) (bytes .activator) (bytes .a))
+  pub in-range : T (inRange x (bytes .activator) (bytes .a) (bytes .b))
 
 abbrev pub FitsExactly : Type 0
 FitsExactly = (bytes : Bytes) (x : Instruction) → (decodeOf bytes ≡ Fits x) ↔ Fitting bytes x

@@ -1,8 +1,8 @@
 // What four bytes mean: the instruction that they fit.
 ghost use mathlib.Core.Path.{_≡_};
-ghost use Rattle.instructions.specs.Instructions.{fourBytes};
+ghost use Rattle.instructions.specs.Instructions.{fourBytes, adding, removing, rule};
 ghost use Rattle.state.specs.Checks.{firstMet};
-ghost use Rattle.instructions.specs.Decode.{rangedAs, decodeOf, decodedNumber, misfits};
+ghost use Rattle.instructions.specs.Decode.{fits, rangedAs, decodeOf, decodedNumber, misfits};
 use state::State;
 
 // The twelve instructions.
@@ -21,6 +21,39 @@ pub enum Instruction {
     RemoveExport,
 }
 
+// What an instruction adds or removes: the area a, or a pair of a and b. It tells what b is as well.
+pub enum Target {
+    TheArea,
+    Owner,
+    Definition,
+    Structure,
+    Import,
+    Export,
+}
+
+// What must be listed: nothing, area a, or area a and b too.
+pub enum Lookup {
+    NoLookup,
+    OnlyA,
+    Both,
+}
+
+// What the activator must own: nothing, area a, both areas; or, to cut a structure pair, either.
+pub enum MustOwn {
+    OwnsNothing,
+    OwnsA,
+    OwnsBoth,
+    OwnsToCut,
+}
+
+// A row of the table of instructions: an add or a remove, of what, and what it asks for.
+pub struct Rule {
+    pub adds: bool,
+    pub target: Target,
+    pub lookup: Lookup,
+    pub ownership: MustOwn,
+}
+
 // The instruction that four bytes fit, or that they fit none: the refusal 1 or 2.
 pub enum Decoded {
     Fits(Instruction),
@@ -28,11 +61,71 @@ pub enum Decoded {
     OutOfRange,
 }
 
-// The instruction, if its numbers are in range: `fits` says so of b.
-fn in_range(x: Instruction, fits: bool, activator: u8, a: u8) -> Decoded
-    ensures { λ r. ⌜ r ≡ rangedAs x fits activator a ⌝ }
+// A row of an instruction that adds.
+fn add(target: Target, lookup: Lookup, ownership: MustOwn) -> Rule
+    ensures { λ r. ⌜ r ≡ adding target lookup ownership ⌝ }
 {
-    if (activator < State::USERS) & (a < State::AREAS) & fits {
+    Rule {
+        adds: true,
+        target: target,
+        lookup: lookup,
+        ownership: ownership,
+    }
+}
+
+// A row of one that removes.
+fn remove(target: Target, lookup: Lookup, ownership: MustOwn) -> Rule
+    ensures { λ r. ⌜ r ≡ removing target lookup ownership ⌝ }
+{
+    Rule {
+        adds: false,
+        target: target,
+        lookup: lookup,
+        ownership: ownership,
+    }
+}
+
+// The table: what the instruction adds or removes, what must be listed, what the activator must own.
+pub fn rule_of(x: Instruction) -> Rule
+    ensures { λ r. ⌜ r ≡ rule x ⌝ }
+{
+    match x {
+        Instruction::ListArea => add(Target::TheArea, Lookup::NoLookup, MustOwn::OwnsNothing),
+        Instruction::UnlistArea => remove(Target::TheArea, Lookup::OnlyA, MustOwn::OwnsA),
+        Instruction::AddOwner => add(Target::Owner, Lookup::OnlyA, MustOwn::OwnsA),
+        Instruction::RemoveOwner => remove(Target::Owner, Lookup::Both, MustOwn::OwnsA),
+        Instruction::AddStructure => add(Target::Structure, Lookup::Both, MustOwn::OwnsBoth),
+        Instruction::RemoveStructure => remove(Target::Structure, Lookup::Both, MustOwn::OwnsToCut),
+        Instruction::Define => add(Target::Definition, Lookup::OnlyA, MustOwn::OwnsA),
+        Instruction::RemoveDefinition => remove(Target::Definition, Lookup::Both, MustOwn::OwnsA),
+        Instruction::AddImport => add(Target::Import, Lookup::Both, MustOwn::OwnsA),
+        Instruction::RemoveImport => remove(Target::Import, Lookup::Both, MustOwn::OwnsA),
+        Instruction::AddExport => add(Target::Export, Lookup::Both, MustOwn::OwnsA),
+        Instruction::RemoveExport => remove(Target::Export, Lookup::Both, MustOwn::OwnsA),
+    }
+}
+
+// Is b what the table says?
+fn is_fit(target: Target, b: u8) -> bool
+    ensures { λ r. ⌜ r ≡ fits target b ⌝ }
+{
+    match target {
+        Target::TheArea => b == 0,
+        Target::Owner => b < State::USERS,
+        Target::Structure => b < State::AREAS,
+        Target::Definition => b < State::OBJECTS,
+        Target::Import => b < State::OBJECTS,
+        Target::Export => b < State::OBJECTS,
+    }
+}
+
+// The instruction, if its numbers are in range.
+fn ranged(x: Instruction, activator: u8, a: u8, b: u8) -> Decoded
+    ensures { λ r. ⌜ r ≡ rangedAs x activator a b ⌝ }
+{
+    let rule = rule_of(x);
+    let target = rule.target;
+    if (activator < State::USERS) & (a < State::AREAS) & is_fit(target, b) {
         Decoded::Fits(x)
     } else {
         Decoded::OutOfRange
@@ -44,23 +137,20 @@ pub fn decode(code: u8, activator: u8, a: u8, b: u8) -> Decoded
     ensures equation { λ r. ⌜ r ≡ decodeOf (fourBytes code activator a b) ⌝ }
     ensures number { λ r. ⌜ decodedNumber r ≡ firstMet (misfits (decodeOf (fourBytes code activator a b))) ⌝ }
 {
-    let user = b < State::USERS;
-    let area = b < State::AREAS;
-    let object = b < State::OBJECTS;
     match code {
-        1 => in_range(Instruction::ListArea, b == 0, activator, a),
-        2 => in_range(Instruction::UnlistArea, b == 0, activator, a),
-        3 => in_range(Instruction::AddOwner, user, activator, a),
-        4 => in_range(Instruction::RemoveOwner, user, activator, a),
-        5 => in_range(Instruction::AddStructure, area, activator, a),
-        6 => in_range(Instruction::RemoveStructure, area, activator, a),
-        7 => in_range(Instruction::Define, object, activator, a),
-        8 => in_range(Instruction::RemoveDefinition, object, activator, a),
-        9 => in_range(Instruction::AddImport, object, activator, a),
-        10 => in_range(Instruction::RemoveImport, object, activator, a),
-        11 => in_range(Instruction::AddExport, object, activator, a),
-        12 => in_range(Instruction::RemoveExport, object, activator, a),
         0 | 13..=255 => Decoded::NoCode,
+        1 => ranged(Instruction::ListArea, activator, a, b),
+        2 => ranged(Instruction::UnlistArea, activator, a, b),
+        3 => ranged(Instruction::AddOwner, activator, a, b),
+        4 => ranged(Instruction::RemoveOwner, activator, a, b),
+        5 => ranged(Instruction::AddStructure, activator, a, b),
+        6 => ranged(Instruction::RemoveStructure, activator, a, b),
+        7 => ranged(Instruction::Define, activator, a, b),
+        8 => ranged(Instruction::RemoveDefinition, activator, a, b),
+        9 => ranged(Instruction::AddImport, activator, a, b),
+        10 => ranged(Instruction::RemoveImport, activator, a, b),
+        11 => ranged(Instruction::AddExport, activator, a, b),
+        12 => ranged(Instruction::RemoveExport, activator, a, b),
     }
 }
 

@@ -4,33 +4,33 @@ use Prim.Native.Nat.{ℕ, _+_, _*_, _≤_}
 use mathlib.Core.Path.{_≡_, refl, sym, ap, subst, _∙_}
 use mathlib.Core.Logic.{_⊎_, inl, inr}
 use mathlib.Core.Bool.{Bool, true, false, _&&_, _||_, not, cond}
-use mathlib.Core.List.{[], _∷_}
+use mathlib.Core.List.{[], _∷_, map}
 use native.Mathlib.Omega.{arith}
 use native.Mathlib.Decide.{ℕ-discrete}
 use lib.Dec.{T, eqb, ltb, eqb→eq, lt→ltb}
 use lib.ListN.{length}
 use borrow.Author.Tests.{le-ltb}
-use Rattle.state.specs.Checks.{firstMet}
+use Rattle.state.specs.Checks.{firstMet, among}
 use Rattle.state.specs.Site.{founding}
-use Rattle.state.specs.declared.State.{State}
+use Rattle.state.specs.Site.{Site}
 use Rattle.state.proofs.Bools.{or-left, or-right, test}
 use Rattle.state.proofs.Checks.{first-meets}
 use Rattle.state.proofs.Laws.{founding-shaped}
 use Rattle.access.specs.Lending.{Lending, lending}
-use Rattle.access.specs.Answer.{answer, answerNumber}
+use Rattle.access.specs.Answer.{answer, answerNumber, longest}
 use Rattle.access.specs.declared.Answer.{Answer}
 use Rattle.access.specs.declared.Answer.the-variants.{Steps, NoAccess}
-use Rattle.access.proofs.Laws.{at-most-31}
+use Rattle.access.proofs.Laws.{answer-is-right}
+use Rattle.access.specs.Claims.{Right}
 use Rattle.records.specs.Record.{recordSize, bytesOf, stateOf, isSized}
 use Rattle.records.proofs.Laws.{state-of-bytes, bytes-of-state, bytes-are-record, bytes-length, record-length, stored-sized, stored-other}
-use Rattle.machine.specs.Step.{stepOf, run, questionRefusals, replyOf}
+use Rattle.machine.specs.Step.{stepOf, run, questionRefusals, replyOf, questionNumbers}
 use Rattle.guarantees.specs.Demand3.{Upheld}
 use Rattle.machine.specs.declared.Reply.the-variants.{Refused, Answered}
 use Rattle.machine.proofs.Laws.{run-none, run-more, reply-by-first}
 use Rattle.machine.proofs.Laws as machine
 use Rattle.guarantees.proofs.Demand3.{demand-3}
-use Rattle.site_file.specs.Reading.{readOf}
-use Rattle.site_file.specs.Claims.{isReadNumber}
+use Rattle.site_file.specs.Reading.{readOf, readNumbers}
 use Rattle.label_finder.specs.Finder.{hasLabel, textAt, textLength}
 use Rattle.site_file.proofs.Laws.{read-sound, read-numbers, read-number}
 use Rattle.label_finder.proofs.Laws.{label-small, label-behind-front, no-label-at-front}
@@ -44,12 +44,12 @@ pub step-is-step : Claims.StepIsStep
 step-is-step s h x =
     let same = state-of-bytes s h in
     record {
-      number = Steps.number-is (bytesOf s) x ∙ ap (λ (t : State). stepOf t x .refusal) same;
-      buffer = Steps.after-record (bytesOf s) x (bytes-are-record s h) ∙ ap (λ (t : State). bytesOf (stepOf t x .state)) same;
+      number = Steps.number-is (bytesOf s) x ∙ ap (λ (t : Site). stepOf t x .refusal) same;
+      buffer = Steps.after-record (bytesOf s) x (bytes-are-record s h) ∙ ap (λ (t : Site). bytesOf (stepOf t x .state)) same;
     }
 
 pub access-is-answer : Claims.AccessIsAnswer
-access-is-answer s h a b = Steps.reply-is (bytesOf s) a b ∙ ap (λ (t : State). answerOf (replyOf t a b)) (state-of-bytes s h)
+access-is-answer s h a b = Steps.reply-is (bytesOf s) a b ∙ ap (λ (t : Site). answerOf (replyOf t a b)) (state-of-bytes s h)
 
 pub founding-record : Claims.FoundingRecord
 founding-record buffer t = ap stateOf (stored-sized buffer founding (eqb→eq (length buffer) recordSize t)) ∙ state-of-bytes founding founding-shaped
@@ -71,14 +71,14 @@ unfolding runBuffer
 run-is-run buffer t [] = sym (bytes-of-state buffer t) ∙ ap bytesOf (sym (run-none (stateOf buffer)))
 run-is-run buffer t (x ∷ rest) =
     run-is-run (stepBuffer buffer x) (Steps.next-record buffer x t) rest
-    ∙ ap bytesOf (ap (λ (s : State). run s rest) (Steps.next-state buffer x t) ∙ sym (run-more (stateOf buffer) x rest))
+    ∙ ap bytesOf (ap (λ (s : Site). run s rest) (Steps.next-state buffer x t) ∙ sym (run-more (stateOf buffer) x rest))
 
 pub records-upheld : Claims.RecordsUpheld
 records-upheld buffer h list =
     let after = run (stateOf buffer) list in
     let upheld = demand-3 (stateOf buffer) list h in
     let same : stateOf (runBuffer buffer list) ≡ after = ap stateOf (run-is-run buffer (Steps.sound-record buffer h) list) ∙ state-of-bytes after (upheld .sound .shaped) in
-    subst (λ (t : State). Upheld (stateOf buffer) list t) (sym same) upheld
+    subst (λ (t : Site). Upheld (stateOf buffer) list t) (sym same) upheld
 
 -- ---- refusals
 pub refused-same-bytes : Claims.RefusedSameBytes
@@ -101,32 +101,30 @@ step-length buffer x = go (ℕ-discrete (stepNumber buffer x) 0)
 
 -- ---- the numbers
 pub step-numbers : Claims.StepNumbers
-step-numbers buffer x =
-    let most : stepNumber buffer x ≤ 12 = rw (Steps.number-is buffer x) (machine.refusal-numbers (stateOf buffer) x) in
-    lt→ltb (stepNumber buffer x) 13 (omega arith)
+step-numbers buffer x = rw (Steps.number-is buffer x) (machine.refusal-numbers (stateOf buffer) x)
 
 pub file-numbers : Claims.FileNumbers
 unfolding fileNumber
 file-numbers file buffer = go (isSized buffer)
   where
-    go : (v : Bool) → let n = cond v (readOf file .refusal) 31 in T (isReadNumber n || eqb n 31)
+    go : (v : Bool) → T (among (cond v (readOf file .refusal) 31) (31 ∷ 0 ∷ readNumbers))
     go true =
-        let n = readOf file .refusal in
-        or-left (isReadNumber n) (eqb n 31) (rw (read-number file) (read-numbers file))
+        or-right (eqb (readOf file .refusal) 31) (among (readOf file .refusal) (0 ∷ readNumbers))
+        (rw (read-number file) (read-numbers file))
     go false = tt
 
 -- an answer is a number of steps within the limit, or 255
 answer-small : (l : Lending) (a : ℕ) (x : Answer) → answer l a ≡ x → T (isAccessNumber (answerNumber x))
 answer-small l a (Steps n) e =
-    or-right (eqb n 255 || eqb n (256 + 12) || eqb n (256 + 2) || eqb n (256 + 4)) (not (ltb 31 n))
-    (rw (le-ltb 31 n (at-most-31 l a n e)) tt)
+    or-right (eqb n 255 || among n (map (λ k. 256 + k) questionNumbers)) (not (ltb longest n))
+    (rw (le-ltb longest n (subst (Right l a) e (answer-is-right l a) .short)) tt)
 answer-small l a NoAccess e = tt
 
 -- each number of the question's table, with 256
 refusal-known : ℕ → Bool
 refusal-known n = eqb n 0 || isAccessNumber (256 + n)
 
-reply-known : (s : State) (a b : ℕ) → T (isAccessNumber (answerOf (replyOf s a b)))
+reply-known : (s : Site) (a b : ℕ) → T (isAccessNumber (answerOf (replyOf s a b)))
 unfolding refusal-known
 reply-known s a b = rw (reply-by-first s a b) (go (eqb n 0) (first-meets refusal-known (questionRefusals s a b) tt tt))
   where

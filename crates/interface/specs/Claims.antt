@@ -1,35 +1,37 @@
--- What is claimed of the C interface. Each claim is a type, which proofs/Laws.antt inhabits under the claim's name.
+-- What is claimed of the C interface. Each claim is a type, which proofs/Laws.antt inhabits under the claim's name. The
+-- words in quotation marks are those of include/panelrights.h.
 use Prim.Native.Nat.{ℕ, _+_, _/_, _%_}
 use mathlib.Core.Path.{_≡_}
 use mathlib.Core.Logic.{_↔_}
 use mathlib.Core.Bool.{Bool, false, _||_, not}
-use mathlib.Core.List.{List}
+use mathlib.Core.List.{List, _∷_, map}
 use lib.Dec.{T, eqb, ltb}
 use lib.ListN.{length}
-use Rattle.state.specs.Site.{Shaped, founding}
-use Rattle.state.specs.declared.State.{State}
+use Rattle.state.specs.Checks.{among}
+use Rattle.state.specs.Site.{Site, Shaped, founding}
+use Rattle.access.specs.Answer.{longest}
 use Rattle.soundness.specs.Sound.{Sound}
 use Rattle.records.specs.Record.{bytesOf, isRecord, stateOf, isSized}
 use Rattle.instructions.specs.Instructions.{Bytes}
-use Rattle.machine.specs.Step.{stepOf, run, replyOf}
+use Rattle.refusals.specs.Refusals.{stepNumbers}
+use Rattle.machine.specs.Step.{stepOf, run, questionNumbers, replyOf}
 use Rattle.guarantees.specs.Demand3.{Upheld}
-use Rattle.site_file.specs.Reading.{readOf}
-use Rattle.site_file.specs.Claims.{isReadNumber}
+use Rattle.site_file.specs.Reading.{readNumbers, readOf}
 use Rattle.site_format.specs.Format.{AreBytes}
 use Rattle.label_finder.specs.Finder.{hasLabel, textAt, textLength}
 use Rattle.interface.specs.Interface.{foundingBuffer, stepNumber, stepBuffer, answerOf, accessNumber, fileNumber}
 use Rattle.interface.specs.Interface.{fileBuffer, labelNumber, runBuffer}
 
 -- ---- with a state's record, the interface does what the machine does with the state
-pub record StepsAs (s : State) (x : Bytes) : Type 0 where
+pub record StepsAs (s : Site) (x : Bytes) : Type 0 where
   pub number : stepNumber (bytesOf s) x ≡ stepOf s x .refusal
   pub buffer : stepBuffer (bytesOf s) x ≡ bytesOf (stepOf s x .state)
 
 abbrev pub StepIsStep : Type 0
-StepIsStep = (s : State) → Shaped s → (x : Bytes) → StepsAs s x
+StepIsStep = (s : Site) → Shaped s → (x : Bytes) → StepsAs s x
 
 abbrev pub AccessIsAnswer : Type 0
-AccessIsAnswer = (s : State) → Shaped s → (a b : ℕ) → accessNumber (bytesOf s) a b ≡ answerOf (replyOf s a b)
+AccessIsAnswer = (s : Site) → Shaped s → (a b : ℕ) → accessNumber (bytesOf s) a b ≡ answerOf (replyOf s a b)
 
 -- and the states that it hands out are those that are asked for
 abbrev pub FoundingRecord : Type 0
@@ -57,7 +59,7 @@ RecordsUpheld =
     (buffer : List ℕ) → Sound (stateOf buffer) → (list : List Bytes)
     → Upheld (stateOf buffer) list (stateOf (runBuffer buffer list))
 
--- ---- "or the refusal, 1 to 12, and no byte is changed"
+-- ---- "or the refusal, and no byte is changed"
 abbrev pub RefusedSameBytes : Type 0
 RefusedSameBytes = (buffer : List ℕ) (x : Bytes) → (stepNumber buffer x ≡ 0 → ⊥) → stepBuffer buffer x ≡ buffer
 
@@ -74,14 +76,14 @@ StepLength = (buffer : List ℕ) (x : Bytes) → length (stepBuffer buffer x) �
 
 -- ---- no other numbers come back
 abbrev pub StepNumbers : Type 0
-StepNumbers = (buffer : List ℕ) (x : Bytes) → T (ltb (stepNumber buffer x) 13)
+StepNumbers = (buffer : List ℕ) (x : Bytes) → T (among (stepNumber buffer x) (0 ∷ stepNumbers))
 
 abbrev pub FileNumbers : Type 0
-FileNumbers = (file buffer : List ℕ) → T (isReadNumber (fileNumber file buffer) || eqb (fileNumber file buffer) 31)
+FileNumbers = (file buffer : List ℕ) → T (among (fileNumber file buffer) (31 ∷ 0 ∷ readNumbers))
 
--- 255; 256 + n, "Refusals 12, 2, 4"; or a number of steps, "never above 31"
+-- 255; 256 + n for a refusal of the question; or a number of steps
 abbrev pub isAccessNumber : ℕ → Bool
-isAccessNumber n = eqb n 255 || eqb n (256 + 12) || eqb n (256 + 2) || eqb n (256 + 4) || not (ltb 31 n)
+isAccessNumber n = eqb n 255 || among n (map (λ k. 256 + k) questionNumbers) || not (ltb longest n)
 
 abbrev pub AccessNumbers : Type 0
 AccessNumbers = (buffer : List ℕ) (a b : ℕ) → T (isAccessNumber (accessNumber buffer a b))

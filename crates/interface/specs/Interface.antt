@@ -1,5 +1,6 @@
 -- The C interface: what each function answers, and what the buffers hold afterwards. A state crosses as its record of
--- 8,320 bytes (records, Record); a buffer is the list of its bytes, and its length is that of the list.
+-- 8,320 bytes (records, Record); a buffer is the list of its bytes, and its length is that of the list. The words in
+-- quotation marks are those of include/panelrights.h.
 --     recordSize                     panelrights_state_bytes (records, Record)
 --     numberFor, foundingBuffer      panelrights_founding (the first: records, Record)
 --     stepNumber, stepBuffer         panelrights_step
@@ -33,7 +34,7 @@ foundingBuffer buffer = stored buffer founding
 unfoldable pub stepNumber : (buffer : List ℕ) → Bytes → ℕ
 stepNumber buffer x = cond (isRecord buffer) (stepOf (stateOf buffer) x .refusal) 12
 
--- "0, and the record is that of the state after it; or the refusal, 1 to 12, and no byte is changed."
+-- "0, and the record is that of the state after it; or the refusal, and no byte is changed."
 unfoldable pub stepBuffer : (buffer : List ℕ) → Bytes → List ℕ
 stepBuffer buffer x = cond (eqb (stepNumber buffer x) 0) (bytesOf (stepOf (stateOf buffer) x .state)) buffer
 

@@ -5,7 +5,7 @@ use mathlib.Core.Bool.{Bool, _&&_, cond}
 use mathlib.Core.List.{List}
 use lib.Dec.{eqb, ltb}
 use lib.ListN.{take, drop}
-use Rattle.label_tables.specs.Labels.{labelSize, labelCount, labelLength, labelIndex}
+use Rattle.label_tables.specs.Labels.{labelSize, textStart, labelCount, labelLength, labelIndex}
 use Rattle.site_format.specs.Format.{labels, offsetIn, part}
 use Rattle.site_file.specs.Reading.{fileRefusal}
 use Rattle.label_finder.specs.declared.Place.{Place}
@@ -16,7 +16,8 @@ hasLabel file a = eqb (fileRefusal file) 0 && ltb (labelIndex (part file labels)
 
 -- where the text starts, "from byte 2 of the label entry", and how long it is
 unfoldable pub textAt : (file : List ℕ) (a : ℕ) → ℕ
-textAt file a = cond (hasLabel file a) (offsetIn file labels + (labelIndex (part file labels) a * labelSize + 2)) 0
+textAt file a =
+    cond (hasLabel file a) (offsetIn file labels + (labelIndex (part file labels) a * labelSize + textStart)) 0
 
 unfoldable pub textLength : (file : List ℕ) (a : ℕ) → ℕ
 textLength file a = cond (hasLabel file a) (labelLength (part file labels) (labelIndex (part file labels) a)) 0

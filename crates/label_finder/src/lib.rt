@@ -5,6 +5,7 @@ ghost use denote.Ref.{ptr};
 ghost use Rattle.site_format.specs.Format.{behind};
 ghost use Rattle.site_file.specs.Reading.{fileRefusal};
 ghost use Rattle.label_finder.specs.Finder.{textAt, placeOf, labelText};
+use site_format::Table;
 
 // Where a text stands in a file: its first byte, and how many it has.
 pub struct Place {
@@ -31,14 +32,14 @@ pub fn label_place(file: &[u8], area: u32) -> Place
     }
     let table = site_format::labels(file);
     let k = label_tables::index_of(table, area);
-    if table.len() / 32 <= k {
+    if table.len() / label_tables::LABEL_SIZE <= k {
         return nowhere;
     }
-    let at = site_format::field_at(file, 26) as usize + (k * 32 + 2);
-    Place {
-        at: at as u16,
-        length: table[k * 32 + 1],
-    }
+    let layout = site_format::layout_of(Table::Labels);
+    let from = site_format::field_at(file, layout.offset_at) as usize;
+    let at = (from + (k * label_tables::LABEL_SIZE + label_tables::TEXT_AT)) as u16;
+    let length = table[k * label_tables::LABEL_SIZE + label_tables::LENGTH_AT];
+    Place { at, length }
 }
 
 // The text of the area's label, as a part of the file; for a refused file, or an area with no label, the part of length

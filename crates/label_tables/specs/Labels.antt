@@ -15,9 +15,12 @@ use Rattle.state.specs.Below.{eachBelow, firstBelow}
 use Rattle.state.specs.Cells.{Members, member}
 use Rattle.state.specs.Site.{area, limit}
 
--- "A label entry has 32 bytes", the text and its filler all but two of them
+-- "A label entry has 32 bytes", the text and its filler all but the first two
 abbrev pub labelSize : ℕ
 labelSize = 32
+
+abbrev pub textStart : ℕ
+textStart = 2
 
 abbrev pub textSize : ℕ
 textSize = 30
@@ -34,7 +37,7 @@ abbrev pub labelLength : List ℕ → ℕ → ℕ
 labelLength t k = getD t (k * labelSize + 1) 0
 
 abbrev pub textByte : List ℕ → (k i : ℕ) → ℕ
-textByte t k i = getD t (k * labelSize + 2 + i) 0
+textByte t k i = getD t (k * labelSize + textStart + i) 0
 
 -- ---- 26: "a number, length, text byte or filler byte outside its range"
 -- "the text (bytes 32 to 126), then zeros"
@@ -68,9 +71,9 @@ unfoldable pub labelIndex : List ℕ → (a : ℕ) → ℕ
 labelIndex t a = firstBelow (labelCount t) (λ k. eqb (labelArea t k) a)
 
 -- ---- the text of area a's label
--- the text of entry k: so many bytes from its byte 2 on
+-- the text of entry k: so many bytes from its third on
 abbrev pub entryText : List ℕ → ℕ → List ℕ
-entryText t k = take (labelLength t k) (drop (k * labelSize + 2) t)
+entryText t k = take (labelLength t k) (drop (k * labelSize + textStart) t)
 
 -- the text of area a's label; no bytes if the area has none (a text has 1 to 30)
 unfoldable pub labelOf : List ℕ → (a : ℕ) → List ℕ

@@ -6,6 +6,16 @@ ghost use lib.ListN.{length};
 ghost use Rattle.state.specs.Below.{eachBelow};
 ghost use Rattle.label_tables.specs.Labels.{labelFits, labelsFit, labelsAscend, labelsListed, labelIndex};
 ghost use Rattle.label_tables.specs.Texts.{textFits};
+use state::State;
+
+// How many bytes an entry has: an area, the length of the text, and the text with its filler.
+pub const LABEL_SIZE: usize = 32;
+
+pub const LENGTH_AT: usize = 1;
+
+pub const TEXT_AT: usize = 2;
+
+const TEXT_SIZE: u8 = 30;
 
 // Are the bytes of the text 32 to 126, and those after it 0?
 fn text_fits(table: &[u8], from: usize, size: u8) -> bool
@@ -13,7 +23,7 @@ fn text_fits(table: &[u8], from: usize, size: u8) -> bool
     ensures { λ r. ⌜ r ≡ eachBelow 30 (textFits (now (table .entry)) from size) ⌝ }
 {
     let mut fits = true;
-    for i in 0..30u8 {
+    for i in 0..TEXT_SIZE {
         let byte = table[from + i as usize];
         if i < size {
             fits = fits & ((32 <= byte) & (byte <= 126));
@@ -29,15 +39,16 @@ fn label_fits(table: &[u8], k: usize) -> bool
     requires { ⌜ k * 32 + 32 ≤ length (now table) ⌝ }
     ensures { λ r. ⌜ r ≡ labelFits (now (table .entry)) k ⌝ }
 {
-    let size = table[k * 32 + 1];
-    ((table[k * 32] < 32) & (1 <= size) & (size <= 30)) & text_fits(table, k * 32 + 2, size)
+    let size = table[k * LABEL_SIZE + LENGTH_AT];
+    ((table[k * LABEL_SIZE] < State::AREAS) & (1 <= size) & (size <= TEXT_SIZE))
+        & text_fits(table, k * LABEL_SIZE + TEXT_AT, size)
 }
 
 // Is each entry in range?
 pub fn all_fit(table: &[u8]) -> bool
     ensures { λ r. ⌜ r ≡ labelsFit (now (table .entry)) ⌝ }
 {
-    let count = table.len() / 32;
+    let count = table.len() / LABEL_SIZE;
     for k in 0..count {
         if !label_fits(table, k) {
             return false;
@@ -50,11 +61,11 @@ pub fn all_fit(table: &[u8]) -> bool
 pub fn all_ascend(table: &[u8]) -> bool
     ensures { λ r. ⌜ r ≡ labelsAscend (now (table .entry)) ⌝ }
 {
-    let count = table.len() / 32;
+    let count = table.len() / LABEL_SIZE;
     let mut k: usize = 0;
     let mut ascends = true;
     while k + 1 < count {
-        ascends = ascends & (table[k * 32] < table[k * 32 + 32]);
+        ascends = ascends & (table[k * LABEL_SIZE] < table[(k + 1) * LABEL_SIZE]);
         k = k + 1;
     }
     ascends
@@ -64,9 +75,9 @@ pub fn all_ascend(table: &[u8]) -> bool
 pub fn all_listed<'a>(areas: &'a [bool], table: &'a [u8]) -> bool
     ensures { λ r. ⌜ r ≡ labelsListed (now (areas .entry)) (now (table .entry)) ⌝ }
 {
-    let count = table.len() / 32;
+    let count = table.len() / LABEL_SIZE;
     for k in 0..count {
-        if !state::is_member(areas, table[k * 32]) {
+        if !state::is_member(areas, table[k * LABEL_SIZE]) {
             return false;
         }
     }
@@ -77,9 +88,9 @@ pub fn all_listed<'a>(areas: &'a [bool], table: &'a [u8]) -> bool
 pub fn index_of(table: &[u8], area: u32) -> usize
     ensures { λ r. ⌜ r ≡ labelIndex (now (table .entry)) area ⌝ }
 {
-    let entries = table.len() / 32;
+    let entries = table.len() / LABEL_SIZE;
     for k in 0..entries {
-        if table[k * 32] as u32 == area {
+        if table[k * LABEL_SIZE] as u32 == area {
             return k;
         }
     }

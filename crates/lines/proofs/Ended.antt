@@ -2,7 +2,7 @@
 --     first-ended, first-unended     the first byte 10 ends it, or none does
 --     first-line-number, no-line, first-line, first-size, lines-at-most     the claims
 -- Assumes nothing.
-use Prim.Native.Nat.{ℕ, zero, suc, _-_, _≤_, _<_}
+use Prim.Native.Nat.{ℕ, zero, suc, _≤_, _<_}
 use mathlib.Core.Path.{_≡_, refl, sym, ap, _∙_}
 use mathlib.Core.List.{List, [], _∷_, _++_}
 use native.Mathlib.Omega.{arith}
@@ -11,14 +11,14 @@ use borrow.Author.Tests.{lt-ltb, le-ltb}
 use lib.ListN.{length, take, drop, length-append, length-drop}
 use lib.Seq.{drop-length, take-append-seam}
 use Rattle.lines.specs.Lines.{lineNumber, newline, space, parts, lineOf, linesOf, index, first, firstLineOf}
-use Rattle.lines.specs.Decimal.{decimal}
+use Rattle.output.specs.Decimal.{decimal}
 use Rattle.lines.specs.Claims.{textOf, ReadableFirst, FirstLineNumber}
 use Rattle.lines.specs.Claims.{NoLine}
 use Rattle.lines.specs.Laws.{FirstLine, Sized, FirstSize, LinesAtMost}
 use Rattle.lines.specs.declared.Line.{Line}
 use Rattle.lines.specs.declared.Line.the-variants.{Unreadable, Readable}
 use Rattle.lines.proofs.Parts.{index-most, index-past, parts-found, parts-whole, parts-more, join, join-parts}
-use Rattle.lines.proofs.Decimal.{decimal-lacks}
+use Rattle.lines.proofs.Words.{decimal-lacks}
 use Rattle.lines.proofs.Texts.{readable-exactly}
 
 module _ (bytes : List ℕ) (i : ℕ) (e : i ≡ index newline bytes) where

@@ -2,25 +2,13 @@
 -- Assumes nothing.
 use Rattle.lines.specs.Claims
 use Rattle.lines.specs.Laws
-use Rattle.lines.proofs.Decimal
 use Rattle.lines.proofs.Words
 use Rattle.lines.proofs.Texts
 use Rattle.lines.proofs.Ended
 
--- ---- decimal numbers
-pub decimal-one : Claims.DecimalOne
-decimal-one = Decimal.decimal-one
-
-pub decimal-more : Claims.DecimalMore
-decimal-more = Decimal.decimal-more
-
-pub decimal-length : Laws.DecimalLength
-decimal-length = Decimal.decimal-length
-
 pub number-exactly : Claims.NumberExactly
 number-exactly = Words.number-exactly
 
--- ---- lines
 pub readable-exactly : Claims.ReadableExactly
 readable-exactly = Texts.readable-exactly
 

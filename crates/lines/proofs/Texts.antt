@@ -15,13 +15,13 @@ use borrow.Author.Tests.{lt-ltb, le-ltb}
 use lib.Dec.{T, ltb, ltb→lt}
 use lib.ListN.{length, take, drop}
 use Rattle.state.proofs.Bools.{and-left, and-right, holds}
-use Rattle.lines.specs.Decimal.{decimal, noNumber, wordNumber}
+use Rattle.output.specs.Decimal.{decimal}
+use Rattle.lines.specs.Words.{noNumber, wordNumber}
 use Rattle.lines.specs.Lines.{space, parts, areNumbers, lineBy, lineOf, index}
 use Rattle.lines.specs.Claims.{textOf, AllBelow256, FourNumbers, ReadableExactly}
 use Rattle.lines.specs.declared.Line.the-variants.{Unreadable, Readable}
 use Rattle.lines.proofs.Parts.{index-most, parts-found, parts-whole, parts-word, parts-more, join, join-parts}
-use Rattle.lines.proofs.Decimal.{decimal-lacks}
-use Rattle.lines.proofs.Words.{number-is, number-at, number-lacks}
+use Rattle.lines.proofs.Words.{decimal-lacks, number-is, number-at, number-lacks}
 
 -- ---- each of four numbers is below 256
 pub all-below : (c u a b : ℕ) → T (areNumbers c u a b) → AllBelow256 c u a b

@@ -1,4 +1,5 @@
 -- The number of a word.
+--     decimal-lacks                             no byte below 48 is among those of a number
 --     number-is, number-at, number-none         the word is the bytes of a number 0 to 255, or of none
 --     number-exactly                            the claim
 --     number-lacks                              a word that stands for a number lacks every byte below 48
@@ -18,11 +19,27 @@ use lib.ListN.{length, getD, take, length-append}
 use lib.Seq.{length-take-le, take-length, take-suc, take-at, take-append-seam, getD-at, getD-append-seam}
 use Rattle.state.proofs.Bools.{and-both, and-left, and-right, is-true, is-false, holds}
 use Rattle.state.proofs.Below.{first-is, first-none, first-met}
-use Rattle.lines.specs.Decimal.{digit, decimal, same, isNumber, noNumber, wordNumber}
+use Rattle.output.specs.Decimal.{digit, decimal}
+use Rattle.output.proofs.Decimal.{decimal-one, decimal-more, by-tenths, longer, decimal-some, decimal-long, decimal-injective}
+use Rattle.lines.specs.Words.{same, isNumber, noNumber, wordNumber}
 use Rattle.lines.specs.Digits.{withDigit, extended}
 use Rattle.lines.specs.Lines.{index}
 use Rattle.lines.specs.Claims.{NumberExactly}
-use Rattle.lines.proofs.Decimal.{decimal-one, decimal-more, decimal-some, decimal-long, decimal-injective, decimal-lacks}
+use Rattle.lines.proofs.Parts.{index-past}
+
+-- ---- no byte below 48 is among those of a number
+pub decimal-lacks : (at : ℕ) → at < 48 → (n : ℕ) → index at (decimal n) ≡ length (decimal n)
+unfolding index
+decimal-lacks at b = by-tenths (λ n. index at (decimal n) ≡ length (decimal n)) one more
+  where
+    last : (d : ℕ) → index at (digit d ∷ []) ≡ 1
+    last d = let other : (digit d ≡ at → ⊥) = λ e. omega arith in rw (ne-eqb (digit d) at other) refl
+
+    one : (n : ℕ) → n < 10 → index at (decimal n) ≡ length (decimal n)
+    one n h = rw (decimal-one n h) (last n)
+
+    more : (n : ℕ) → 10 ≤ n → index at (decimal (n / 10)) ≡ length (decimal (n / 10)) → index at (decimal n) ≡ length (decimal n)
+    more n h t = rw (longer n h, decimal-more n h, index-past at (decimal (n / 10)) (digit (n % 10) ∷ []) t, last (n % 10)) refl
 
 -- ---- the same bytes
 same-at : (v w : List ℕ) → T (same v w) → v ≡ w

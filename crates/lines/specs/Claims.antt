@@ -1,18 +1,12 @@
--- What is claimed of numbers and lines. Each claim is a type, which proofs/Laws.antt inhabits under the claim's name.
-use Prim.Native.Nat.{ℕ, _+_, _/_, _%_, _≤_, _<_}
+-- What is claimed of words and lines. Each claim is a type, which proofs/Laws.antt inhabits under the claim's name.
+use Prim.Native.Nat.{ℕ, _<_}
 use mathlib.Core.Path.{_≡_}
 use mathlib.Core.Logic.{_↔_}
 use mathlib.Core.List.{List, [], _∷_, _++_}
-use Rattle.lines.specs.Decimal.{decimal, wordNumber}
+use Rattle.output.specs.Decimal.{decimal}
+use Rattle.lines.specs.Words.{wordNumber}
 use Rattle.lines.specs.Lines.{lineNumber, lineOf, linesOf, firstLineOf}
 use Rattle.lines.specs.declared.Line.the-variants.{Readable}
-
--- ---- decimal numbers: the two rules; byte 48 is the digit 0
-abbrev pub DecimalOne : Type 0
-DecimalOne = (n : ℕ) → n < 10 → decimal n ≡ (48 + n) ∷ []
-
-abbrev pub DecimalMore : Type 0
-DecimalMore = (n : ℕ) → 10 ≤ n → decimal n ≡ decimal (n / 10) ++ ((48 + n % 10) ∷ [])
 
 -- a word stands for a number 0 to 255 exactly when it is that number's bytes
 abbrev pub NumberExactly : Type 0

@@ -3,7 +3,7 @@
 use Prim.Native.Nat.{ℕ, _+_, _-_, _*_}
 use mathlib.Core.Bool.{_||_, cond}
 use lib.Dec.{eqb, ltb}
-use Rattle.lines.specs.Decimal.{noNumber}
+use Rattle.lines.specs.Words.{noNumber}
 
 -- n with one digit more; 256 if the byte is no digit, or the number is not 0 to 255
 abbrev pub withDigit : (n byte : ℕ) → ℕ

@@ -1,14 +1,9 @@
 -- What the layers above use. Each law is a type, which proofs/Laws.antt inhabits under the law's name.
-use Prim.Native.Nat.{ℕ, suc, _^_, _≤_, _<_}
+use Prim.Native.Nat.{ℕ, _≤_, _<_}
 use mathlib.Core.Path.{_≡_}
 use mathlib.Core.List.{List, _∷_}
 use lib.ListN.{length, drop}
-use Rattle.lines.specs.Decimal.{decimal}
 use Rattle.lines.specs.Lines.{linesOf, firstLineOf}
-
--- a number has no more digits than that
-abbrev pub DecimalLength : Type 0
-DecimalLength = (k n : ℕ) → n < 10 ^ suc k → length (decimal n) ≤ suc k
 
 -- bytes that are not empty have a first line, and the lines of what stands behind it
 abbrev pub FirstLine : Type 0

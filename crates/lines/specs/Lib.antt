@@ -1,8 +1,8 @@
--- What a reader of this crate believes: decimal numbers as bytes (Decimal), the lines of an input (Lines), and what is
+-- What a reader of this crate believes: the number of a word (Words), the lines of an input (Lines), and what is
 -- claimed of the two (Claims). Laws has what the layers above use, Digits what this crate's own functions promise each
 -- other.
 --     lines::first_line    firstLineOf, lineNumber
-pub mod Decimal
+pub mod Words
 pub mod Digits
 pub mod Lines
 pub mod Claims

@@ -10,7 +10,7 @@ use mathlib.Core.Bool.{Bool, _&&_, cond}
 use mathlib.Core.List.{List, [], _∷_, map}
 use lib.Dec.{eqb, ltb}
 use lib.ListN.{length, take}
-use Rattle.lines.specs.Decimal.{noNumber, wordNumber}
+use Rattle.lines.specs.Words.{noNumber, wordNumber}
 use Rattle.lines.specs.declared.Line.{Line}
 use Rattle.lines.specs.declared.Line.the-variants.{Unreadable, Readable}
 use Rattle.lines.specs.declared.First.{First}

@@ -3,7 +3,7 @@ ghost use mathlib.Core.Path.{_≡_};
 ghost use mathlib.Core.List.{[], _∷_};
 ghost use Prim.Native.Nat.{suc, _≤_, _<_};
 ghost use lib.ListN.{length, take, drop};
-ghost use Rattle.lines.specs.Decimal.{wordNumber};
+ghost use Rattle.lines.specs.Words.{wordNumber};
 ghost use Rattle.lines.specs.Digits.{withDigit, extended};
 ghost use Rattle.lines.specs.Lines.{lineNumber, index, lineBy, lineOf, firstLineOf};
 ghost use Rattle.lines.specs.Claims.{NumberOfFirst};

@@ -6,25 +6,24 @@ use mathlib.Core.Bool.{Bool, true, false, not, cond}
 use mathlib.Core.List.{_++_}
 use lib.Dec.{eqb}
 use borrow.Author.Tests.{eq-eqb, ne-eqb}
-use Rattle.state.specs.Site.{Shaped}
-use Rattle.state.specs.declared.State.{State}
+use Rattle.state.specs.Site.{Site, Shaped, Verdict, verdict}
+use Rattle.readings.specs.Readings.{seenOf}
 use Rattle.state.proofs.Bools.{fails}
 use Rattle.soundness.specs.Tests.{isSound}
-use Rattle.instructions.specs.Instructions.{Bytes}
+use Rattle.instructions.specs.Instructions.{Bytes, rule}
 use Rattle.instructions.specs.Decode.{decodeOf, decodedNumber, misfits}
 use Rattle.successors.specs.Successor.{successor, successorOf}
 use Rattle.state.specs.Checks.{firstMet}
-use Rattle.refusals.specs.Refusals.{instructionChecks, checksOf, refusals}
-use Rattle.refusals.specs.Parts.{early, late}
+use Rattle.refusals.specs.Refusals.{earlyChecks, instructionChecks, checksOf, refusals}
+use Rattle.refusals.specs.Parts.{resultChecks}
 use Rattle.machine.specs.Step.{decided, stepRefusal, stepOf}
 use Rattle.instructions.specs.declared.Instruction.{Instruction}
 use Rattle.instructions.specs.declared.Decoded.{Decoded}
 use Rattle.instructions.specs.declared.Decoded.the-variants.{Fits, NoCode, OutOfRange}
-use Rattle.machine.specs.declared.Outcome.{Outcome}
 use Rattle.state.proofs.Checks.{met, passed}
 use Rattle.refusals.proofs.Late.{checks-in-two}
 
-module _ (s : State) (bytes : Bytes) where
+module _ (s : Site) (bytes : Bytes) where
   -- the number of what was decoded: 1 or 2, or that of the instruction's checks
   abbrev number : Decoded → ℕ
   number d = firstMet (misfits d ++ checksOf s bytes d)
@@ -38,17 +37,17 @@ module _ (s : State) (bytes : Bytes) where
   first-fit x = passed _ _ refl ∙ passed _ _ refl
 
   -- a refusal leaves the state
-  refused : (n : ℕ) → eqb n 0 ≡ false → firstMet (refusals s bytes) ≡ n → _≡_ {A = Outcome} (record { refusal = n; state = s }) (stepOf s bytes)
+  refused : (n : ℕ) → eqb n 0 ≡ false → firstMet (refusals s bytes) ≡ n → verdict n s ≡ stepOf s bytes
   unfolding stepOf stepRefusal
   refused n z e =
       let t = successorOf s bytes (decodeOf bytes) in
-      ap (λ (p : Bool). record { refusal = n; state = cond p t s }) (sym z) ∙ ap (decided s t) (sym e)
+      ap (λ (p : Bool). verdict n (cond p t s)) (sym z) ∙ ap (decided s t) (sym e)
 
-  pub step-unsound : not (isSound s) ≡ true → _≡_ {A = Outcome} (record { refusal = 12; state = s }) (stepOf s bytes)
+  pub step-unsound : not (isSound s) ≡ true → verdict 12 s ≡ stepOf s bytes
   step-unsound e = refused 12 refl (met _ _ e)
 
   pub step-misfit : (d : Decoded) → not (isSound s) ≡ false → d ≡ decodeOf bytes → eqb (decodedNumber d) 0 ≡ false
-      → _≡_ {A = Outcome} (record { refusal = decodedNumber d; state = s }) (stepOf s bytes)
+      → verdict (decodedNumber d) s ≡ stepOf s bytes
   step-misfit d e q z =
       refused (decodedNumber d) z (passed _ _ e ∙ ap number (sym q) ∙ first-misfit d z)
 
@@ -60,38 +59,38 @@ module _ (s : State) (bytes : Bytes) where
       ∙ ap (λ (d : Decoded). decided s (successorOf s bytes d) (firstMet (instructionChecks s x (bytes .activator) (bytes .a) (bytes .b)))) q)
 
 -- the number of an instruction from the checks in two parts, and what is given with it
-module _ (s : State) (bytes : Bytes) (shaped : Shaped s) (x : Instruction) (sound : not (isSound s) ≡ false) (fit : decodeOf bytes ≡ Fits x) where
-  abbrev next : State
+module _ (s : Site) (bytes : Bytes) (shaped : Shaped s) (x : Instruction) (sound : not (isSound s) ≡ false) (fit : decodeOf bytes ≡ Fits x) where
+  abbrev next : Site
   next = successor s x (bytes .activator) (bytes .a) (bytes .b)
 
   abbrev total : ℕ
   total = firstMet (instructionChecks s x (bytes .activator) (bytes .a) (bytes .b))
 
   abbrev first : ℕ
-  first = firstMet (early s x (bytes .activator) (bytes .a) (bytes .b))
+  first = firstMet (earlyChecks (seenOf s (bytes .activator) (bytes .a) (bytes .b)) (rule x))
 
-  abbrev second : State → ℕ
-  second t = firstMet (late t x (bytes .a) (bytes .b))
+  abbrev second : Site → ℕ
+  second t = firstMet (resultChecks t (rule x .target) (rule x .adds) (bytes .a) (bytes .b))
 
   total-is : (m : ℕ) (v : Bool) → m ≡ first → eqb m 0 ≡ v → total ≡ cond v (second next) first
   total-is m v f e =
-      checks-in-two s shaped x (bytes .activator) (bytes .a) (bytes .b) ∙ ap (λ (p : Bool). cond p (second next) first) (ap (λ (k : ℕ). eqb k 0) (sym f) ∙ e)
+      checks-in-two s shaped (seenOf s (bytes .activator) (bytes .a) (bytes .b)) (rule x) (bytes .activator) (bytes .a) (bytes .b) ∙ ap (λ (p : Bool). cond p (second next) first) (ap (λ (k : ℕ). eqb k 0) (sym f) ∙ e)
 
   -- a refusal with the number n
-  stopped : (n : ℕ) → (n ≡ 0 → ⊥) → total ≡ n → _≡_ {A = Outcome} (record { refusal = n; state = s }) (stepOf s bytes)
+  stopped : (n : ℕ) → (n ≡ 0 → ⊥) → total ≡ n → verdict n s ≡ stepOf s bytes
   stopped n ne e =
-      ap (λ (p : Bool). record { refusal = n; state = cond p next s }) (sym (ne-eqb n 0 ne)) ∙ ap (decided s next) (sym e) ∙ step-fit s bytes x sound fit
+      ap (λ (p : Bool). verdict n (cond p next s)) (sym (ne-eqb n 0 ne)) ∙ ap (decided s next) (sym e) ∙ step-fit s bytes x sound fit
 
-  pub step-early : (n : ℕ) → n ≡ first → (n ≡ 0 → ⊥) → _≡_ {A = Outcome} (record { refusal = n; state = s }) (stepOf s bytes)
+  pub step-early : (n : ℕ) → n ≡ first → (n ≡ 0 → ⊥) → verdict n s ≡ stepOf s bytes
   step-early n f ne = stopped n ne (total-is n false f (ne-eqb n 0 ne) ∙ sym f)
 
   -- no early check is met, and the late ones are those of the successor
-  past-early : (m n : ℕ) (t : State) → m ≡ first → m ≡ 0 → t ≡ next → n ≡ second t → total ≡ n
+  past-early : (m n : ℕ) (t : Site) → m ≡ first → m ≡ 0 → t ≡ next → n ≡ second t → total ≡ n
   past-early m n t f z q l = total-is m true f (eq-eqb m 0 z) ∙ ap second (sym q) ∙ sym l
 
-  pub step-late : (m n : ℕ) (t : State) → m ≡ first → m ≡ 0 → t ≡ next → n ≡ second t → (n ≡ 0 → ⊥) → _≡_ {A = Outcome} (record { refusal = n; state = s }) (stepOf s bytes)
+  pub step-late : (m n : ℕ) (t : Site) → m ≡ first → m ≡ 0 → t ≡ next → n ≡ second t → (n ≡ 0 → ⊥) → verdict n s ≡ stepOf s bytes
   step-late m n t f z q l ne = stopped n ne (past-early m n t f z q l)
 
-  pub step-accepted : (m n : ℕ) (t : State) → m ≡ first → m ≡ 0 → t ≡ next → n ≡ second t → n ≡ 0 → _≡_ {A = Outcome} (record { refusal = 0; state = t }) (stepOf s bytes)
+  pub step-accepted : (m n : ℕ) (t : Site) → m ≡ first → m ≡ 0 → t ≡ next → n ≡ second t → n ≡ 0 → verdict 0 t ≡ stepOf s bytes
   step-accepted m n t f z q l e =
-      (λ i. record { refusal = 0; state = q i }) ∙ ap (decided s next) (sym (past-early m n t f z q l ∙ e)) ∙ step-fit s bytes x sound fit
+      (λ i. verdict 0 (q i)) ∙ ap (decided s next) (sym (past-early m n t f z q l ∙ e)) ∙ step-fit s bytes x sound fit

@@ -1,51 +1,63 @@
--- The claims of specs/Claims.antt and the laws of specs/Laws.antt, each proved under its name. No number of the table of refusals is above 12.
+-- The claims of specs/Claims.antt and the laws of specs/Laws.antt, each proved under its name.
 -- Assumes nothing.
-use Prim.Native.Nat.{ℕ, _<_}
+use Prim.Native.Nat.{ℕ}
 use mathlib.Core.Path.{refl, ap}
 use mathlib.Core.Bool.{Bool, true, false, not, cond}
-use mathlib.Core.List.{_++_}
-use native.Mathlib.Omega.{arith}
+use mathlib.Core.List.{_∷_, _++_}
 use lib.Dec.{T, eqb, ltb, ltb→lt}
-use borrow.Author.Tests.{ne-eqb}
-use Rattle.state.specs.declared.State.{State}
-use Rattle.state.proofs.Checks.{eachNumber, first-meets, met}
-use Rattle.state.specs.Checks.{_when_, firstMet}
+use borrow.Author.Tests.{eq-eqb, ne-eqb}
+use Rattle.state.specs.Site.{Site}
+use Rattle.state.proofs.Bools.{not-so, holds}
+use Rattle.state.proofs.Checks.{eachOf, first-meets, among-meets, none-met-at, met}
+use Rattle.state.specs.Checks.{_when_, firstMet, among, eachNumber, numbered}
 use Rattle.access.specs.Lending.{lending}
 use Rattle.access.specs.Answer.{answer}
 use Rattle.access.specs.declared.Answer.{Answer}
-use Rattle.access.proofs.Laws.{answer-is-right, no-access-is-no-chain}
+use Rattle.access.proofs.Laws.{answer-is-right}
 use Rattle.soundness.specs.Tests.{isSound}
 use Rattle.successors.specs.Successor.{successorOf}
 use Rattle.instructions.specs.Instructions.{Bytes}
 use Rattle.instructions.specs.Decode.{decodeOf, misfits}
 use Rattle.instructions.specs.declared.Decoded.{Decoded}
 use Rattle.instructions.specs.declared.Decoded.the-variants.{Fits, NoCode, OutOfRange}
-use Rattle.refusals.specs.Refusals.{checksOf, refusals}
+use Rattle.refusals.specs.Refusals.{checksOf, refusals, stepNumbers}
 use Rattle.machine.specs.Step.{stepRefusal, stepOf, run, refusedOr, replyOf, questionRefusals, AnswerMeans}
 use Rattle.machine.specs.declared.Reply.the-variants.{Refused, Answered}
 use Rattle.machine.specs.Claims
 use Rattle.machine.specs.Laws
 
-small : ℕ → Bool
-small n = ltb n 13
+-- each number of the table is one of the list
+a-number : ℕ → Bool
+a-number n = among n (0 ∷ stepNumbers)
 
-each : (s : State) (bytes : Bytes) (d : Decoded) → T (eachNumber small (misfits d ++ checksOf s bytes d))
-unfolding small
+each : (s : Site) (bytes : Bytes) (d : Decoded) → T (eachNumber a-number (misfits d ++ checksOf s bytes d))
+unfolding a-number
 each s bytes (Fits x) = tt
 each s bytes NoCode = tt
 each s bytes OutOfRange = tt
 
 pub refusal-numbers : Claims.RefusalNumbers
-unfolding small stepOf stepRefusal
-refusal-numbers s bytes =
-    let below : firstMet (refusals s bytes) < 13 = ltb→lt (firstMet (refusals s bytes)) 13 (first-meets small (refusals s bytes) tt (each s bytes (decodeOf bytes))) in
-    omega arith
+unfolding a-number stepOf stepRefusal
+refusal-numbers s bytes = first-meets a-number (refusals s bytes) tt (each s bytes (decodeOf bytes))
+
+-- and what holds of each number of the list holds of the one that is given
+number-meets : (test : ℕ → Bool) → T (eachOf test (0 ∷ stepNumbers)) → (s : Site) (bytes : Bytes) → T (test (stepOf s bytes .refusal))
+number-meets test e s bytes = among-meets test (0 ∷ stepNumbers) _ e (refusal-numbers s bytes)
 
 pub never-thirteen : Claims.NeverThirteen
-never-thirteen s bytes e = let most = refusal-numbers s bytes in omega arith
+never-thirteen s bytes e = not-so (eqb (stepOf s bytes .refusal) 13) (number-meets (λ n. not (eqb n 13)) tt s bytes) (holds (eq-eqb _ 13 e))
 
 pub two-digits : Laws.TwoDigits
-two-digits s bytes = let most = refusal-numbers s bytes in omega arith
+two-digits s bytes = ltb→lt (stepOf s bytes .refusal) 100 (number-meets (λ n. ltb n 100) tt s bytes)
+
+all-numbered : (s : Site) (bytes : Bytes) (d : Decoded) → T (numbered (misfits d ++ checksOf s bytes d))
+all-numbered s bytes (Fits x) = tt
+all-numbered s bytes NoCode = tt
+all-numbered s bytes OutOfRange = tt
+
+pub accepted-meets-none : Claims.AcceptedMeetsNone
+unfolding stepOf stepRefusal
+accepted-meets-none s bytes e n = none-met-at (refusals s bytes) (all-numbered s bytes (decodeOf bytes)) e n
 
 pub unsound-refused : Laws.UnsoundRefused
 unfolding stepOf stepRefusal
@@ -82,5 +94,5 @@ reply-is-right s a b = rw (reply-by-first s a b) (go (eqb (firstMet (questionRef
     x = answer (lending s b) a
 
     go : (v : Bool) → AnswerMeans s a b (cond v (Answered x) (Refused (firstMet (questionRefusals s a b))))
-    go true = record { right = answer-is-right (lending s b) a; none-at-all = no-access-is-no-chain (lending s b) a }
+    go true = answer-is-right (lending s b) a
     go false = tt

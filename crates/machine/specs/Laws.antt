@@ -3,7 +3,7 @@ use Prim.Native.Nat.{ℕ, _<_}
 use mathlib.Core.Path.{_≡_}
 use mathlib.Core.Bool.{false}
 use mathlib.Core.List.{List, [], _∷_}
-use Rattle.state.specs.declared.State.{State}
+use Rattle.state.specs.Site.{Site}
 use Rattle.state.specs.Checks.{firstMet}
 use Rattle.access.specs.Lending.{lending}
 use Rattle.access.specs.Answer.{answer}
@@ -14,23 +14,23 @@ use Rattle.machine.specs.declared.Reply.the-variants.{Refused}
 
 -- a number has at most two digits
 abbrev pub TwoDigits : Type 0
-TwoDigits = (s : State) (bytes : Bytes) → stepOf s bytes .refusal < 100
+TwoDigits = (s : Site) (bytes : Bytes) → stepOf s bytes .refusal < 100
 
 -- 12: "the state is unsound"
 abbrev pub UnsoundRefused : Type 0
-UnsoundRefused = (s : State) (bytes : Bytes) → isSound s ≡ false → stepOf s bytes .refusal ≡ 12
+UnsoundRefused = (s : Site) (bytes : Bytes) → isSound s ≡ false → stepOf s bytes .refusal ≡ 12
 
 abbrev pub UnsoundUnanswered : Type 0
-UnsoundUnanswered = (s : State) (a b : ℕ) → isSound s ≡ false → replyOf s a b ≡ Refused 12
+UnsoundUnanswered = (s : Site) (a b : ℕ) → isSound s ≡ false → replyOf s a b ≡ Refused 12
 
 -- the reply is decided by the first refusal that is met
 abbrev pub ReplyByFirst : Type 0
 ReplyByFirst =
-    (s : State) (a b : ℕ) → replyOf s a b ≡ refusedOr (firstMet (questionRefusals s a b)) (answer (lending s b) a)
+    (s : Site) (a b : ℕ) → replyOf s a b ≡ refusedOr (firstMet (questionRefusals s a b)) (answer (lending s b) a)
 
 -- no instruction, and one in front
 abbrev pub RunNone : Type 0
-RunNone = (s : State) → run s [] ≡ s
+RunNone = (s : Site) → run s [] ≡ s
 
 abbrev pub RunMore : Type 0
-RunMore = (s : State) (bytes : Bytes) (rest : List Bytes) → run s (bytes ∷ rest) ≡ run (stepOf s bytes .state) rest
+RunMore = (s : Site) (bytes : Bytes) (rest : List Bytes) → run s (bytes ∷ rest) ≡ run (stepOf s bytes .state) rest

@@ -1,13 +1,12 @@
 // The machine: any four bytes with any record get one successor state or one refusal number.
 ghost use mathlib.Core.Path.{_≡_};
-ghost use mathlib.Core.Bool.{_&&_};
-ghost use Rattle.state.specs.Site.{area, object, listed};
+ghost use Rattle.state.specs.Site.{verdict};
+ghost use Rattle.state.specs.Stands.{site};
 ghost use Rattle.access.specs.Lending.{lending};
 ghost use Rattle.access.specs.Answer.{answer, answerNumber};
-ghost use Rattle.access.specs.Claims.{Meaning};
 ghost use Rattle.instructions.specs.Instructions.{fourBytes};
 ghost use Rattle.state.specs.Checks.{firstMet};
-ghost use Rattle.machine.specs.Step.{outcomeOf, stepOf};
+ghost use Rattle.machine.specs.Step.{stepOf};
 ghost use Rattle.machine.specs.Step.{questionRefusals, replyOf, replyNumber, replyValue, AnswerMeans};
 use access::Answer;
 use instructions::Decoded;
@@ -25,17 +24,9 @@ pub enum Reply {
     Answered(Answer),
 }
 
-// In how many steps has area a access to object b?
-fn steps(s: State, a: u8, b: u8) -> Answer
-    ensures equation { λ r. ⌜ r ≡ answer (lending s b) a ⌝ }
-    ensures meaning { λ r. ⌜ Meaning (lending s b) a r ⌝ }
-{
-    access::steps(&s.definitions, &s.structure, &s.imports, &s.exports, a, b)
-}
-
 // The outcome with this number and state.
 fn outcome_of(refusal: u8, state: State) -> Outcome
-    ensures { λ r. ⌜ r ≡ outcomeOf refusal state ⌝ }
+    ensures { λ r. ⌜ verdict (r .refusal) (site (r .state)) ≡ verdict refusal (site state) ⌝ }
 {
     Outcome {
         refusal: refusal,
@@ -45,7 +36,7 @@ fn outcome_of(refusal: u8, state: State) -> Outcome
 
 // What four bytes give with a record, both of any content.
 pub fn step(s: State, code: u8, activator: u8, a: u8, b: u8) -> Outcome
-    ensures { λ r. ⌜ r ≡ stepOf s (fourBytes code activator a b) ⌝ }
+    ensures { λ r. ⌜ verdict (r .refusal) (site (r .state)) ≡ stepOf (site s) (fourBytes code activator a b) ⌝ }
 {
     if !inspection::is_sound(s) {
         return outcome_of(12, s);
@@ -54,32 +45,26 @@ pub fn step(s: State, code: u8, activator: u8, a: u8, b: u8) -> Outcome
     let Decoded::Fits(x) = decoded else {
         return outcome_of(instructions::misfit(decoded), s);
     };
-    let early = refusals::early_refusal(s, x, activator, a, b);
+    let rule = instructions::rule_of(x);
+    let early = refusals::early_refusal(readings::look(s, activator, a, b), rule);
     if early != 0 {
         return outcome_of(early, s);
     }
     let next = successors::successor(s, x, activator, a, b);
-    let late = refusals::late_refusal(next, x, a, b);
+    let late = refusals::late_refusal(next, rule, a, b);
     if late != 0 {
         return outcome_of(late, s);
     }
     outcome_of(0, next)
 }
 
-// Are area a and object b listed?
-fn are_listed(s: State, a: u8, b: u8) -> bool
-    ensures { λ r. ⌜ r ≡ (listed s area a && listed s object b) ⌝ }
-{
-    state::is_member(&s.areas, a) & state::is_member(&s.objects, b)
-}
-
 // In how many steps has area a access to object b? Any record, and any numbers: 256 is no area, and not area 0. The
 // reply's number is the first refusal that is met, 0 for none; its value is then that of the access layer's answer.
 pub fn ask(s: State, a: u32, b: u32) -> Reply
-    ensures equation { λ r. ⌜ r ≡ replyOf s a b ⌝ }
-    ensures number { λ r. ⌜ replyNumber r ≡ firstMet (questionRefusals s a b) ⌝ }
-    ensures value { λ r. ⌜ (replyNumber r ≡ 0 → replyValue r ≡ answerNumber (answer (lending s b) a)) ⌝ }
-    ensures meaning { λ r. ⌜ AnswerMeans s a b r ⌝ }
+    ensures equation { λ r. ⌜ r ≡ replyOf (site s) a b ⌝ }
+    ensures number { λ r. ⌜ replyNumber r ≡ firstMet (questionRefusals (site s) a b) ⌝ }
+    ensures value { λ r. ⌜ (replyNumber r ≡ 0 → replyValue r ≡ answerNumber (answer (lending (site s) b) a)) ⌝ }
+    ensures meaning { λ r. ⌜ AnswerMeans (site s) a b r ⌝ }
 {
     if !inspection::is_sound(s) {
         return Reply::Refused(12);
@@ -89,8 +74,8 @@ pub fn ask(s: State, a: u32, b: u32) -> Reply
     }
     let area = a as u8;
     let object = b as u8;
-    if !are_listed(s, area, object) {
+    if !readings::are_listed(s, area, object) {
         return Reply::Refused(4);
     }
-    Reply::Answered(steps(s, area, object))
+    Reply::Answered(access::steps(s, area, object))
 }

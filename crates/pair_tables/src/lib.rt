@@ -7,6 +7,9 @@ ghost use Rattle.pair_tables.specs.Pairs.{pairsFit, earlier, pairsAscend
 ghost use Rattle.pair_tables.specs.Runs.{pairFitsFrom};
 use state::State;
 
+// How many bytes a pair has.
+pub const PAIR_SIZE: usize = 2;
+
 // Is the first number below the limit and the second that of an area, in each of so many pairs from pair k on?
 fn run_fits(table: &[u8], k: usize, count: usize, limit: u8) -> bool
     requires { ⌜ (k + count) * 2 ≤ length (now table) ⌝ }
@@ -14,7 +17,9 @@ fn run_fits(table: &[u8], k: usize, count: usize, limit: u8) -> bool
 {
     let mut fits = true;
     for i in 0..count {
-        fits = fits & ((table[(k + i) * 2] < limit) & (table[(k + i) * 2 + 1] < State::AREAS));
+        fits = fits
+            & ((table[(k + i) * PAIR_SIZE] < limit)
+                & (table[(k + i) * PAIR_SIZE + 1] < State::AREAS));
     }
     fits
 }
@@ -24,7 +29,7 @@ fn run_fits(table: &[u8], k: usize, count: usize, limit: u8) -> bool
 pub fn all_fit(table: &[u8], limit: u8) -> bool
     ensures { λ r. ⌜ r ≡ pairsFit limit (now (table .entry)) ⌝ }
 {
-    let count = table.len() / 2;
+    let count = table.len() / PAIR_SIZE;
     let mut k: usize = 0;
     let mut fits = true;
     while k + 8 <= count {
@@ -45,16 +50,16 @@ fn is_earlier(i: u8, j: u8, m: u8, n: u8) -> bool
 pub fn all_ascend(table: &[u8]) -> bool
     ensures { λ r. ⌜ r ≡ pairsAscend (now (table .entry)) ⌝ }
 {
-    let count = table.len() / 2;
+    let count = table.len() / PAIR_SIZE;
     let mut k: usize = 0;
     let mut ascends = true;
     while k + 1 < count {
         ascends = ascends
             & is_earlier(
-                table[k * 2],
-                table[k * 2 + 1],
-                table[k * 2 + 2],
-                table[k * 2 + 3],
+                table[k * PAIR_SIZE],
+                table[k * PAIR_SIZE + 1],
+                table[(k + 1) * PAIR_SIZE],
+                table[(k + 1) * PAIR_SIZE + 1],
             );
         k = k + 1;
     }
@@ -65,9 +70,9 @@ pub fn all_ascend(table: &[u8]) -> bool
 fn fill(cells: &mut [bool], table: &[u8])
     ensures { λ _. ⌜ now (cells .exit) ≡ withPairs (now (table .entry)) (now (cells .entry)) ⌝ }
 {
-    let count = table.len() / 2;
+    let count = table.len() / PAIR_SIZE;
     for k in 0..count {
-        state::put_in(cells, table[k * 2], table[k * 2 + 1], true);
+        state::put_in(cells, table[k * PAIR_SIZE], table[k * PAIR_SIZE + 1], true);
     }
 }
 

@@ -3,6 +3,7 @@ ghost use mathlib.Core.Path.{_≡_};
 ghost use Prim.Native.Nat.{_+_, _≤_};
 ghost use lib.ListN.{length};
 ghost use Rattle.state.specs.Below.{eachBelow};
+ghost use Rattle.state.specs.Stands.{site};
 ghost use Rattle.records.specs.Record.{isBit, isRecord, cellsAt, stateOf};
 use state::State;
 
@@ -79,7 +80,7 @@ fn cells_2048(bytes: &[u8], at: usize) -> [bool; 2048]
 
 // The state whose record the bytes are; for bytes that are no record the state of nothing, which is not sound.
 pub fn state_of(bytes: &[u8]) -> State
-    ensures { λ r. ⌜ r ≡ stateOf (now (bytes .entry)) ⌝ }
+    ensures { λ r. ⌜ site r ≡ stateOf (now (bytes .entry)) ⌝ }
 {
     if !is_record(bytes) {
         return State::empty();

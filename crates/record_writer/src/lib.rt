@@ -2,6 +2,7 @@
 ghost use mathlib.Core.Path.{_≡_};
 ghost use Prim.Native.Nat.{_+_, _≤_};
 ghost use lib.ListN.{length};
+ghost use Rattle.state.specs.Stands.{site};
 ghost use Rattle.records.specs.Record.{numberFor, stored};
 ghost use Rattle.record_writer.specs.Laying.{laid};
 use state::State;
@@ -19,7 +20,7 @@ fn write_cells<'a>(bytes: &'a mut [u8], at: usize, cells: &'a [bool])
 // Writes the state's record into the buffer: 0; or 31 and no byte written, if the buffer has another length.
 pub fn write(s: State, buffer: &mut [u8]) -> u8
     ensures number { λ r. ⌜ r ≡ numberFor (now (buffer .entry)) ⌝ }
-    ensures bytes { λ _. ⌜ now (buffer .exit) ≡ stored (now (buffer .entry)) s ⌝ }
+    ensures bytes { λ _. ⌜ now (buffer .exit) ≡ stored (now (buffer .entry)) (site s) ⌝ }
 {
     if buffer.len() != records::SIZE {
         return 31;

@@ -13,7 +13,7 @@ use lib.Seq.{ext-getD, getD-take, getD-drop, take-add, take-all, length-take-le}
 use Rattle.state.specs.Cells.{width}
 use Rattle.state.specs.Below.{eachBelow}
 use Rattle.state.specs.Site.{Kind, user, area, object, limit, Relation, owner, definition, structure, import, export, firstKind, members, cells, Shaped}
-use Rattle.state.specs.declared.State.{State}
+use Rattle.state.specs.Site.{Site}
 use Rattle.state.proofs.Bools.{and-both, is-true, holds, test}
 use Rattle.state.proofs.Below.{each-by}
 use Rattle.state.proofs.Tabulate.{length-tabulate, getD-tabulate, tabulate-is}
@@ -58,12 +58,12 @@ bit-back true = refl
 bit-back false = refl
 
 -- the cells that are read from a state's record are those that stand there
-read-back : (s : State) → Shaped s → (start : ℕ) (part : List Bool) (n : ℕ) → length part ≡ n → Held (places s) recordSize start part → cellsAt (bytesOf s) start n ≡ part
+read-back : (s : Site) → Shaped s → (start : ℕ) (part : List Bool) (n : ℕ) → length part ≡ n → Held (places s) recordSize start part → cellsAt (bytesOf s) start n ≡ part
 read-back s sh start part n h t =
     sym (tabulate-is (isSet (bytesOf s) start) n false part h
     (λ k q. sym (bit-back (getD part k false)) ∙ ap (λ (v : ℕ). eqb v 1) (sym (byte-of s sh start part t k (rw h q)))))
 
-by-fields : (s t : State) → ((k : Kind) → members s k ≡ members t k) → ((r : Relation) → cells s r ≡ cells t r) → s ≡ t
+by-fields : (s t : Site) → ((k : Kind) → members s k ≡ members t k) → ((r : Relation) → cells s r ≡ cells t r) → s ≡ t
 by-fields s t m c i =
     record {
       users = m user i;

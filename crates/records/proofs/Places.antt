@@ -14,7 +14,7 @@ use lib.Seq.{getD-append-add}
 use Rattle.state.specs.Tabulate.{tabulate}
 use Rattle.state.specs.Cells.{width, member, pair}
 use Rattle.state.specs.Site.{Kind, user, area, object, Relation, owner, definition, structure, import, export, limit, firstKind, members, cells, Shaped}
-use Rattle.state.specs.declared.State.{State}
+use Rattle.state.specs.Site.{Site}
 use Rattle.records.specs.Record.{listStart, pairStart, recordSize, bit, listByte, listBytes, pairByte, pairBytes, bytesOf}
 use Rattle.records.specs.Bits.{bits}
 use Rattle.state.proofs.Tabulate.{length-tabulate, tabulate-is}
@@ -22,7 +22,7 @@ use Rattle.state.proofs.Laws.{member-cell, pair-cell}
 use Rattle.records.proofs.Bits.{bits-append, bits-length}
 
 -- the cells of a state, those of one set or relation behind those of another
-abbrev pub places : State → List Bool
+abbrev pub places : Site → List Bool
 places s = s .users ++ s .areas ++ s .objects ++ s .owners ++ s .definitions ++ s .structure ++ s .imports ++ s .exports
 
 -- `part` stands in the n cells l, from `start` on
@@ -68,14 +68,14 @@ joined c d e f = ap₂ _++_ e f ∙ sym (bits-append c d)
 record Long (x : List ℕ) (n : ℕ) : Type 0 where
   pub long : length x ≡ n
 
-and-list : (s : State) (k : Kind) {x : List ℕ} (m : ℕ) → Long x m → Long (x ++ listBytes s k) (m + limit k)
+and-list : (s : Site) (k : Kind) {x : List ℕ} (m : ℕ) → Long x m → Long (x ++ listBytes s k) (m + limit k)
 and-list s k {x} m t = record { long = length-append x (listBytes s k) ∙ ap₂ _+_ (t .long) (length-tabulate (listByte s k) (limit k)) }
 
-and-pairs : (s : State) (r : Relation) {x : List ℕ} (m : ℕ) → Long x m → Long (x ++ pairBytes s r) (m + limit (firstKind r) * width)
+and-pairs : (s : Site) (r : Relation) {x : List ℕ} (m : ℕ) → Long x m → Long (x ++ pairBytes s r) (m + limit (firstKind r) * width)
 and-pairs s r {x} m t =
     record { long = length-append x (pairBytes s r) ∙ ap₂ _+_ (t .long) (length-tabulate (pairByte s r) (limit (firstKind r) * width)) }
 
-pub bytes-length : (s : State) → length (bytesOf s) ≡ recordSize
+pub bytes-length : (s : Site) → length (bytesOf s) ≡ recordSize
 unfolding bytesOf
 bytes-length s =
     let users : Long (listBytes s user) 32 = record { long = length-tabulate (listByte s user) 32 } in
@@ -83,7 +83,7 @@ bytes-length s =
     let structures = and-pairs s structure 3200 (and-pairs s definition 1152 (and-pairs s owner 128 objects)) in
     and-pairs s export 6272 (and-pairs s import 4224 structures) .long
 
-module _ (s : State) (h : Shaped s) where
+module _ (s : Site) (h : Shaped s) where
   -- the first two sets and relations, the first three, and so on
   abbrev l2 : List Bool
   l2 = s .users ++ s .areas

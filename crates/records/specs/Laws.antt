@@ -6,7 +6,7 @@ use mathlib.Core.List.{List}
 use lib.Dec.{T}
 use lib.ListN.{length}
 use Rattle.state.specs.Site.{empty, Shaped}
-use Rattle.state.specs.declared.State.{State}
+use Rattle.state.specs.Site.{Site}
 use Rattle.records.specs.Record.{recordSize, bytesOf, isRecord, stateOf, isSized}
 use Rattle.records.specs.Record.{stored}
 
@@ -23,8 +23,8 @@ RecordLength = (bytes : List ℕ) → T (isRecord bytes) → length bytes ≡ 83
 
 -- ---- a buffer that a state is written into
 abbrev pub StoredSized : Type 0
-StoredSized = (buffer : List ℕ) (s : State) → length buffer ≡ recordSize → stored buffer s ≡ bytesOf s
+StoredSized = (buffer : List ℕ) (s : Site) → length buffer ≡ recordSize → stored buffer s ≡ bytesOf s
 
 -- "no byte written"
 abbrev pub StoredOther : Type 0
-StoredOther = (buffer : List ℕ) (s : State) → isSized buffer ≡ false → stored buffer s ≡ buffer
+StoredOther = (buffer : List ℕ) (s : Site) → isSized buffer ≡ false → stored buffer s ≡ buffer

@@ -1,6 +1,5 @@
 -- The record of a state as bytes, as programs in other languages keep it (include/panelrights.h): "8,320 bytes, one a
--- place, 1 where a number is listed or a pair is there, and 0 where not." Here and above, a record is these bytes;
--- `recordOf` (state) makes the struct of the code.
+-- place, 1 where a number is listed or a pair is there, and 0 where not." Here and above, a record is these bytes.
 --     listStart, pairStart, recordSize     where each set and each relation begins, and how many bytes there are
 --     bytesOf                              the bytes of a state's record
 --     isSized, isRecord, stateOf           whether bytes are a record, and of which state
@@ -13,9 +12,9 @@ use lib.ListN.{length, getD}
 use Rattle.state.specs.Below.{eachBelow}
 use Rattle.state.specs.Tabulate.{tabulate}
 use Rattle.state.specs.Cells.{width}
-use Rattle.state.specs.Site.{Kind, user, area, object, limit, listed, recordOf, empty}
+use Rattle.state.specs.Site.{Kind, user, area, object, limit, listed, siteOf, empty}
 use Rattle.state.specs.Site.{Relation, owner, definition, structure, import, export, firstKind, related}
-use Rattle.state.specs.declared.State.{State}
+use Rattle.state.specs.Site.{Site}
 
 -- users 32, areas 32, objects 64: where the byte of number 0 stands
 abbrev pub listStart : Kind → ℕ
@@ -41,23 +40,23 @@ abbrev pub bit : Bool → ℕ
 bit v = cond v 1 0
 
 -- one byte for each number that may be listed
-abbrev pub listByte : State → Kind → ℕ → ℕ
+abbrev pub listByte : Site → Kind → ℕ → ℕ
 listByte s k i = bit (listed s k i)
 
-abbrev pub listBytes : State → Kind → List ℕ
+abbrev pub listBytes : Site → Kind → List ℕ
 listBytes s k = tabulate (limit k) (listByte s k)
 
 -- one byte for each pair that may be there: byte p is that of (p / 32, p % 32), so the byte of (i, j) is byte
 -- i * 32 + j
-abbrev pub pairByte : State → Relation → ℕ → ℕ
+abbrev pub pairByte : Site → Relation → ℕ → ℕ
 pairByte s r p = bit (related s r (p / width) (p % width))
 
-abbrev pub pairBytes : State → Relation → List ℕ
+abbrev pub pairBytes : Site → Relation → List ℕ
 pairBytes s r = tabulate (limit (firstKind r) * width) (pairByte s r)
 
 -- the places in the header's order: users, areas, objects; owners (user * 32 + area), definitions (object * 32 + area),
 -- structure (inner * 32 + outer), imports and exports (object * 32 + area)
-unfoldable pub bytesOf : State → List ℕ
+unfoldable pub bytesOf : Site → List ℕ
 bytesOf s =
     listBytes s user ++ listBytes s area ++ listBytes s object
     ++ pairBytes s owner ++ pairBytes s definition ++ pairBytes s structure ++ pairBytes s import ++ pairBytes s export
@@ -90,14 +89,14 @@ abbrev pub pairsAt : (bytes : List ℕ) → Relation → List Bool
 pairsAt bytes r = cellsAt bytes (pairStart r) (limit (firstKind r) * width)
 
 -- the state that the places hold
-abbrev pub stateAt : (bytes : List ℕ) → State
+abbrev pub stateAt : (bytes : List ℕ) → Site
 stateAt bytes =
-    recordOf (listAt bytes user) (listAt bytes area) (listAt bytes object)
+    siteOf (listAt bytes user) (listAt bytes area) (listAt bytes object)
     (pairsAt bytes owner) (pairsAt bytes definition) (pairsAt bytes structure)
     (pairsAt bytes import) (pairsAt bytes export)
 
 -- the state whose record the bytes are; bytes that are no record give the state of nothing, which is not sound
-unfoldable pub stateOf : (bytes : List ℕ) → State
+unfoldable pub stateOf : (bytes : List ℕ) → Site
 stateOf bytes = cond (isRecord bytes) (stateAt bytes) empty
 
 -- ---- a state written into a buffer
@@ -106,5 +105,5 @@ abbrev pub numberFor : (buffer : List ℕ) → ℕ
 numberFor buffer = cond (isSized buffer) 0 31
 
 -- the record of the state; no byte changed in a buffer of another length
-unfoldable pub stored : (buffer : List ℕ) → State → List ℕ
+unfoldable pub stored : (buffer : List ℕ) → Site → List ℕ
 stored buffer s = cond (isSized buffer) (bytesOf s) buffer

@@ -5,26 +5,34 @@ use Prim.Native.Nat.{ℕ}
 use mathlib.Core.Path.{_≡_, refl, sym, ap, subst, _∙_}
 use mathlib.Core.Logic.{_↔_}
 use mathlib.Core.Bool.{Bool, true, false, _&&_, _||_, not, cond}
-use mathlib.Core.List.{List, [], _∷_}
+use mathlib.Core.List.{List, [], _∷_, _++_}
 use lib.Dec.{T, eqb}
-use lib.ListN.{drop}
 use borrow.Author.Tests.{eqb-true, eq-eqb}
 use Rattle.state.specs.Site.{user, area, owner, structure, listed, withListed, withPair, owns, Shaped}
 use Rattle.state.specs.Walk.{someMember, somePair, hasFirst, hasSecond}
-use Rattle.state.specs.declared.State.{State}
+use Rattle.state.specs.Site.{Site}
 use Rattle.state.proofs.Bools.{is-true, holds, and-both, and-left, and-right, not-so, so-not, same-test, fails-both}
 use Rattle.state.proofs.Laws.{listed-other, unlist-adds-none, unlisted-gone, list-shaped, relate-shaped, remove-adds-none, removed-gone, others-stay, some-member, some-pair, has-second}
 use Rattle.soundness.specs.Tests.{someListed}
 use Rattle.soundness.proofs.Laws.{some-decided}
-use Rattle.successors.specs.Successor.{withoutOwner, successor}
+use Rattle.successors.specs.Successor.{withoutOwner, changed}
 use Rattle.state.specs.Checks.{Check, _when_, firstMet}
-use Rattle.refusals.specs.Refusals.{soleOwner, onlyArea, otherOwner, instructionChecks}
-use Rattle.refusals.specs.Parts.{early, late}
-use Rattle.instructions.specs.declared.Instruction.{Instruction}
-use Rattle.instructions.specs.declared.Instruction.the-variants.{ListArea, UnlistArea, AddOwner, RemoveOwner, AddStructure, RemoveStructure, Define, RemoveDefinition, AddImport, RemoveImport, AddExport, RemoveExport}
+use Rattle.readings.specs.declared.Seen.{Seen}
+use Rattle.refusals.specs.Refusals.{soleOwner, onlyArea, otherOwner, earlyChecks, lateChecks}
+use Rattle.refusals.specs.Claims
+use Rattle.refusals.specs.Parts.{resultChecks}
+use Rattle.instructions.specs.declared.Rule.{Rule}
+use Rattle.instructions.specs.declared.Lookup.the-variants.{NoLookup}
+use Rattle.instructions.specs.declared.MustOwn.the-variants.{OwnsNothing}
+use Rattle.instructions.specs.declared.Target.{Target}
+use Rattle.instructions.specs.declared.Target.the-variants.{TheArea, Owner, Definition, Structure, Import, Export}
 use Rattle.state.proofs.Checks.{first-of-two}
 
-module _ (s : State) (shaped : Shaped s) where
+-- a row with this target, of an add (true) or a remove; what else it says is not read by the checks 8 to 11
+adding-or-not : Target → Bool → Rule
+adding-or-not k v = record { adds = v; target = k; lookup = NoLookup; ownership = OwnsNothing }
+
+module _ (s : Site) (shaped : Shaped s) where
   -- some other user owns area a: without user u's pair it still has an owner
   others-left : (u a : ℕ) (test : ℕ → ℕ → Bool) → ((v c : ℕ) → T (test v c) ↔ ((c ≡ a) × (v ≡ u → ⊥)))
       → somePair (s .owners) test ≡ hasSecond (withPair s owner u a false .owners) a
@@ -69,7 +77,7 @@ module _ (s : State) (shaped : Shaped s) where
   only-area : (u a : ℕ) → onlyArea s a ≡ not (someListed (withListed (withoutOwner s u a) area a false .areas))
   only-area u a = ap not (same-test (someMember (s .areas) (λ c. not (eqb c a))) (someListed (t .areas)) there back)
     where
-      t : State
+      t : Site
       t = withListed (withoutOwner s u a) area a false
 
       sh : Shaped (withoutOwner s u a)
@@ -90,33 +98,40 @@ module _ (s : State) (shaped : Shaped s) where
           gone : (c : ℕ) → T (listed t area c) → c ≡ a → ⊥
           gone c q e = unlisted-gone (withoutOwner s u a) area a sh (rw e at q)
 
-  -- the checks 8 to 11 as the paper has them
-  abbrev last-checks : Instruction → (u a b : ℕ) → List Check
-  last-checks x u a b = drop 5 (instructionChecks s x u a b)
-
-  same-checks : (x : Instruction) (u a b : ℕ) → last-checks x u a b ≡ late (successor s x u a b) x a b
-  same-checks ListArea u a b = refl
-  same-checks UnlistArea u a b =
+  -- the checks 8 to 11 as the paper has them, by target and kind
+  same-by : (k : Target) (v : Bool) (u a b : ℕ)
+      → lateChecks s (adding-or-not k v) u a b ≡ resultChecks (changed s k v u a b) k v a b
+  unfolding adding-or-not
+  same-by TheArea true u a b = refl
+  same-by TheArea false u a b =
       λ i.
       (8 when only-area u a i)
       ∷ (9 when other-owner u a i || hasSecond (s .definitions) a || hasFirst (s .structure) a || hasSecond (s .structure) a || hasSecond (s .imports) a || hasSecond (s .exports) a)
       ∷ (10 when false)
       ∷ (11 when false)
       ∷ []
-  same-checks AddOwner u a b = refl
-  same-checks RemoveOwner u a b = λ i. (8 when sole-owner b a i) ∷ (9 when false) ∷ (10 when false) ∷ (11 when false) ∷ []
-  same-checks AddStructure u a b = refl
-  same-checks RemoveStructure u a b = refl
-  same-checks Define u a b = refl
-  same-checks RemoveDefinition u a b = refl
-  same-checks AddImport u a b = refl
-  same-checks RemoveImport u a b = refl
-  same-checks AddExport u a b = refl
-  same-checks RemoveExport u a b = refl
+  same-by Owner true u a b = refl
+  same-by Owner false u a b = λ i. (8 when sole-owner b a i) ∷ (9 when false) ∷ (10 when false) ∷ (11 when false) ∷ []
+  same-by Definition true u a b = refl
+  same-by Definition false u a b = refl
+  same-by Structure true u a b = refl
+  same-by Structure false u a b = refl
+  same-by Import true u a b = refl
+  same-by Import false u a b = refl
+  same-by Export true u a b = refl
+  same-by Export false u a b = refl
 
-  -- the number of an instruction, from the checks in two parts
-  pub checks-in-two : (x : Instruction) (u a b : ℕ)
-      → firstMet (instructionChecks s x u a b) ≡ cond (eqb (firstMet (early s x u a b)) 0) (firstMet (late (successor s x u a b) x a b)) (firstMet (early s x u a b))
-  checks-in-two x u a b =
-      first-of-two (early s x u a b) (last-checks x u a b) tt
-      ∙ ap (λ (l : List Check). cond (eqb (firstMet (early s x u a b)) 0) (firstMet l) (firstMet (early s x u a b))) (same-checks x u a b)
+pub late-by-result : Claims.LateByResult
+unfolding adding-or-not
+late-by-result s shaped r u a b = same-by s shaped (r .target) (r .adds) u a b
+
+-- the number of a rule's checks, from the two parts: those of what is seen, and those of the state that it would give
+pub checks-in-two : (s : Site) → Shaped s → (v : Seen) (r : Rule) (u a b : ℕ)
+    → firstMet (earlyChecks v r ++ lateChecks s r u a b)
+    ≡ cond (eqb (firstMet (earlyChecks v r)) 0)
+    (firstMet (resultChecks (changed s (r .target) (r .adds) u a b) (r .target) (r .adds) a b))
+    (firstMet (earlyChecks v r))
+checks-in-two s shaped v r u a b =
+    first-of-two (earlyChecks v r) (lateChecks s r u a b) tt
+    ∙ ap (λ (l : List Check). cond (eqb (firstMet (earlyChecks v r)) 0) (firstMet l) (firstMet (earlyChecks v r)))
+    (late-by-result s shaped r u a b)

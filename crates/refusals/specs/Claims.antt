@@ -1,17 +1,26 @@
 -- What is claimed of the table of refusals. Each claim is a type, which proofs/Laws.antt inhabits under the claim's
--- name.
+-- name; LateByResult is proved in proofs/Late.antt.
+use Prim.Native.Nat.{ℕ}
 use mathlib.Core.Path.{_≡_}
-use mathlib.Core.List.{[], _∷_}
 use Rattle.state.specs.Checks.{numbers}
-use Rattle.state.specs.declared.State.{State}
+use Rattle.state.specs.Site.{Site, Shaped}
 use Rattle.instructions.specs.Instructions.{Bytes}
 use Rattle.instructions.specs.Decode.{decodeOf}
 use Rattle.instructions.specs.declared.Instruction.{Instruction}
 use Rattle.instructions.specs.declared.Decoded.the-variants.{Fits}
-use Rattle.refusals.specs.Refusals.{refusals}
+use Rattle.instructions.specs.declared.Rule.{Rule}
+use Rattle.successors.specs.Successor.{changed}
+use Rattle.refusals.specs.Refusals.{lateChecks, refusals, stepNumbers}
+use Rattle.refusals.specs.Parts.{resultChecks}
+
+-- The checks 8 to 11 may be made of the state that the instruction would give: `late_refusal` does so.
+abbrev pub LateByResult : Type 0
+LateByResult =
+    (s : Site) → Shaped s → (r : Rule) (u a b : ℕ)
+    → lateChecks s r u a b ≡ resultChecks (changed s (r .target) (r .adds) u a b) (r .target) (r .adds) a b
 
 -- "Order of checks: 12 first, then 1 to 11 upwards", for bytes that fit an instruction. For others the table ends at 2.
 abbrev pub RefusalOrder : Type 0
 RefusalOrder =
-    (s : State) (bytes : Bytes) (x : Instruction) → decodeOf bytes ≡ Fits x
-    → numbers (refusals s bytes) ≡ 12 ∷ 1 ∷ 2 ∷ 3 ∷ 4 ∷ 5 ∷ 6 ∷ 7 ∷ 8 ∷ 9 ∷ 10 ∷ 11 ∷ []
+    (s : Site) (bytes : Bytes) (x : Instruction) → decodeOf bytes ≡ Fits x
+    → numbers (refusals s bytes) ≡ stepNumbers

@@ -1,249 +1,191 @@
-// When an instruction that the bytes fit is refused, and with which number: the checks 3 to 7 of the state given, and 8
-// to 11 of the state that it would give.
+// When an instruction that the bytes fit is refused, and with which number: the early checks, of what was read of the
+// state given, and the late ones, of the state that the instruction would give.
 ghost use mathlib.Core.Path.{_≡_};
-ghost use mathlib.Core.Bool.{_&&_, not};
-ghost use Rattle.state.specs.Site.{recordOf};
+ghost use mathlib.Core.Bool.{true, false};
+ghost use Prim.Native.Nat.{_≤_};
+ghost use lib.ListN.{length};
+ghost use Rattle.state.specs.Checks.{firstMet};
+ghost use Rattle.state.specs.Stands.{site};
 ghost use Rattle.access.specs.Lending.{lending};
 ghost use Rattle.access.specs.Answer.{access};
-ghost use Rattle.instructions.specs.Instructions.{rule};
-ghost use Rattle.instructions.specs.declared.Instruction.the-variants.{UnlistArea};
-ghost use Rattle.state.specs.Checks.{firstMet};
-ghost use Rattle.refusals.specs.Parts.{missingBy, entitledBy, presentBy, absentBy, early, late, namesArea};
+ghost use Rattle.instructions.specs.declared.Target.the-variants.{TheArea, Owner, Structure, Import};
+ghost use Rattle.refusals.specs.Refusals.{bListed, missing, entitled, present, absent, earlyChecks};
+ghost use Rattle.refusals.specs.Parts.{rowsOf, resultChecks};
 use access::Answer;
-use instructions::Instruction;
+use instructions::Lookup;
+use instructions::MustOwn;
+use instructions::Rule;
+use instructions::Target;
+use readings::Seen;
 use state::State;
 
-// Refusal 4: something that the instruction names is not listed. `area` says that area a is; `user`, `outer` and
-// `object` that b is too, as a user, an area or an object.
-fn is_missing(x: Instruction, area: bool, user: bool, outer: bool, object: bool) -> bool
-    ensures { λ r. ⌜ r ≡ missingBy (rule x .lookup) area user outer object ⌝ }
+// Is b listed, as what it is?
+fn b_is_listed(v: Seen, target: Target) -> bool
+    ensures { λ r. ⌜ r ≡ bListed v target ⌝ }
 {
-    match x {
-        Instruction::ListArea => false,
-        Instruction::RemoveOwner => !user,
-        Instruction::AddStructure | Instruction::RemoveStructure => !outer,
-        Instruction::UnlistArea | Instruction::AddOwner | Instruction::Define => !area,
-        Instruction::RemoveDefinition
-        | Instruction::AddImport
-        | Instruction::RemoveImport
-        | Instruction::AddExport
-        | Instruction::RemoveExport => !object,
+    match target {
+        Target::TheArea => true,
+        Target::Owner => v.user,
+        Target::Structure => v.outer,
+        Target::Definition => v.object,
+        Target::Import => v.object,
+        Target::Export => v.object,
     }
 }
 
-// Has the activator the ownership that the instruction asks for? He owns area a, or both areas, or may cut the pair.
-fn is_entitled(x: Instruction, own: bool, both: bool, cut: bool) -> bool
-    ensures { λ r. ⌜ r ≡ entitledBy (rule x .mustOwn) own both cut ⌝ }
+// Refusal 4: something that the instruction names is not listed.
+fn is_missing(v: Seen, target: Target, lookup: Lookup) -> bool
+    ensures { λ r. ⌜ r ≡ missing v target lookup ⌝ }
 {
-    match x {
-        Instruction::ListArea => true,
-        Instruction::AddStructure => both,
-        Instruction::RemoveStructure => cut,
-        Instruction::UnlistArea
-        | Instruction::AddOwner
-        | Instruction::RemoveOwner
-        | Instruction::Define
-        | Instruction::RemoveDefinition
-        | Instruction::AddImport
-        | Instruction::RemoveImport
-        | Instruction::AddExport
-        | Instruction::RemoveExport => own,
+    match lookup {
+        Lookup::NoLookup => false,
+        Lookup::OnlyA => !v.area,
+        Lookup::Both => !(v.area & b_is_listed(v, target)),
     }
 }
 
-// Refusal 6: an add of what is there.
-fn is_repeated(
-    x: Instruction,
-    area: bool,
-    object: bool,
-    owned: bool,
-    inside: bool,
-    imported: bool,
-    exported: bool,
-) -> bool
-    ensures { λ r. ⌜ r ≡ (rule x .adds && presentBy (rule x .target) area object owned inside imported exported) ⌝ }
+// Has the activator the ownership that the instruction asks for?
+fn is_entitled(v: Seen, ownership: MustOwn) -> bool
+    ensures { λ r. ⌜ r ≡ entitled v ownership ⌝ }
 {
-    match x {
-        Instruction::ListArea => area,
-        Instruction::AddOwner => owned,
-        Instruction::AddStructure => inside,
-        Instruction::Define => object,
-        Instruction::AddImport => imported,
-        Instruction::AddExport => exported,
-        Instruction::UnlistArea
-        | Instruction::RemoveOwner
-        | Instruction::RemoveStructure
-        | Instruction::RemoveDefinition
-        | Instruction::RemoveImport
-        | Instruction::RemoveExport => false,
+    match ownership {
+        MustOwn::OwnsNothing => true,
+        MustOwn::OwnsA => v.own,
+        MustOwn::OwnsBoth => v.own & v.other,
+        MustOwn::OwnsToCut => v.own | v.other,
     }
 }
 
-// Refusal 7: a remove of a pair that is not there.
-fn is_absent(
-    x: Instruction,
-    owned: bool,
-    defined: bool,
-    inside: bool,
-    imported: bool,
-    exported: bool,
-) -> bool
-    ensures { λ r. ⌜ r ≡ (not (rule x .adds) && absentBy (rule x .target) owned defined inside imported exported) ⌝ }
+// Is there what would be added?
+fn is_present(v: Seen, target: Target) -> bool
+    ensures { λ r. ⌜ r ≡ present v target ⌝ }
 {
-    match x {
-        Instruction::RemoveOwner => !owned,
-        Instruction::RemoveStructure => !inside,
-        Instruction::RemoveDefinition => !defined,
-        Instruction::RemoveImport => !imported,
-        Instruction::RemoveExport => !exported,
-        Instruction::ListArea
-        | Instruction::UnlistArea
-        | Instruction::AddOwner
-        | Instruction::AddStructure
-        | Instruction::Define
-        | Instruction::AddImport
-        | Instruction::AddExport => false,
+    match target {
+        Target::TheArea => v.area,
+        Target::Owner => v.owned,
+        Target::Definition => v.object,
+        Target::Structure => v.inside,
+        Target::Import => v.imported,
+        Target::Export => v.exported,
     }
 }
 
-// `early_refusal` for the record that the eight arrays hold.
-fn early_lent<'a>(
-    users: &'a [bool],
-    areas: &'a [bool],
-    objects: &'a [bool],
-    owners: &'a [bool],
-    definitions: &'a [bool],
-    structure: &'a [bool],
-    imports: &'a [bool],
-    exports: &'a [bool],
-    x: Instruction,
-    u: u8,
-    a: u8,
-    b: u8,
-) -> u8
-    ensures { λ r. ⌜ r ≡ firstMet (early (recordOf (now (users .entry)) (now (areas .entry)) (now (objects .entry))
-        (now (owners .entry)) (now (definitions .entry)) (now (structure .entry)) (now (imports .entry))
-        (now (exports .entry))) x u a b) ⌝ }
+// Is the pair that would be removed not there?
+fn is_absent(v: Seen, target: Target) -> bool
+    ensures { λ r. ⌜ r ≡ absent v target ⌝ }
 {
-    if !state::is_member(users, u) {
-        return 3;
+    match target {
+        Target::TheArea => false,
+        Target::Owner => !v.owned,
+        Target::Definition => !v.defined,
+        Target::Structure => !v.inside,
+        Target::Import => !v.imported,
+        Target::Export => !v.exported,
     }
-    let area = state::is_member(areas, a);
-    let user = area & state::is_member(users, b);
-    let outer = area & state::is_member(areas, b);
-    let listed = state::is_member(objects, b);
-    let object = area & listed;
-    if is_missing(x, area, user, outer, object) {
-        return 4;
-    }
-    let own = state::is_pair(owners, u, a);
-    let other = state::is_pair(owners, u, b);
-    // `own | other` is the rule for cutting a structure pair: either owner may.
-    if !is_entitled(x, own, own & other, own | other) {
-        return 5;
-    }
-    let owned = state::is_pair(owners, b, a);
-    let inside = state::is_pair(structure, a, b);
-    let imported = state::is_pair(imports, b, a);
-    let exported = state::is_pair(exports, b, a);
-    if is_repeated(x, area, listed, owned, inside, imported, exported) {
-        return 6;
-    }
-    let defined = state::is_pair(definitions, b, a);
-    if is_absent(x, owned, defined, inside, imported, exported) {
-        return 7;
+}
+
+// The first of the numbers whose condition is met, 0 if none is.
+fn first_of<'a>(numbers: &'a [u8], met: &'a [bool]) -> u8
+    requires { ⌜ length (now met) ≤ length (now numbers) ⌝ }
+    ensures { λ r. ⌜ r ≡ firstMet (rowsOf (now (numbers .entry)) (now (met .entry))) ⌝ }
+{
+    for i in 0..met.len() {
+        if met[i] {
+            return numbers[i];
+        }
     }
     0
 }
 
-// The refusal of an instruction from 3 to 7, 0 if there is none of these.
-pub fn early_refusal(s: State, x: Instruction, u: u8, a: u8, b: u8) -> u8
-    ensures { λ r. ⌜ r ≡ firstMet (early s x u a b) ⌝ }
-{
-    early_lent(
-        &s.users,
-        &s.areas,
-        &s.objects,
-        &s.owners,
-        &s.definitions,
-        &s.structure,
-        &s.imports,
-        &s.exports,
-        x,
-        u,
-        a,
-        b,
-    )
-}
+// The numbers of the early checks, in their order.
+const EARLY: [u8; 5] = [3, 4, 5, 6, 7];
 
-// Is there a pair that names the area?
-fn names_area<'a>(
-    owners: &'a [bool],
-    definitions: &'a [bool],
-    structure: &'a [bool],
-    imports: &'a [bool],
-    exports: &'a [bool],
-    area: u8,
-) -> bool
-    ensures { λ r. ⌜ r ≡ namesArea (now (owners .entry)) (now (definitions .entry)) (now (structure .entry)) (now
-        (imports .entry)) (now (exports .entry)) area ⌝ }
+// The refusal by an early check, 0 if none is met.
+pub fn early_refusal(v: Seen, rule: Rule) -> u8
+    ensures { λ r. ⌜ r ≡ firstMet (earlyChecks v rule) ⌝ }
 {
-    rows::in_column(owners, area)
-        | rows::in_column(definitions, area)
-        | rows::in_row(structure, area)
-        | rows::in_column(structure, area)
-        | rows::in_column(imports, area)
-        | rows::in_column(exports, area)
+    let lookup = rule.lookup;
+    let ownership = rule.ownership;
+    let target = rule.target;
+    let numbers = EARLY;
+    let met = [
+        !v.activator,
+        is_missing(v, target, lookup),
+        !is_entitled(v, ownership),
+        rule.adds & is_present(v, target),
+        !rule.adds & is_absent(v, target),
+    ];
+    first_of(&numbers, &met)
 }
 
 // Has area a access to object b?
 fn has_access(s: State, a: u8, b: u8) -> bool
-    ensures { λ r. ⌜ r ≡ access (lending s b) a ⌝ }
+    ensures { λ r. ⌜ r ≡ access (lending (site s) b) a ⌝ }
 {
-    match access::steps(&s.definitions, &s.structure, &s.imports, &s.exports, a, b) {
+    match access::steps(s, a, b) {
         Answer::Steps(_) => true,
         Answer::NoAccess => false,
     }
 }
 
-// The refusal of an area's unlisting, of the state t that it would give: 8 if no area is left, 9 if a pair still names
-// the area.
-fn unlist_refusal(t: State, a: u8) -> u8
-    ensures { λ r. ⌜ r ≡ firstMet (late t UnlistArea a 0) ⌝ }
+// The refusal of an import or export, of the state t that it would give: 10 if area a lacks access to object b.
+fn entry_refusal(t: State, a: u8, b: u8) -> u8
+    ensures { λ r. ⌜ r ≡ firstMet (resultChecks (site t) Import true a b) ⌝ }
 {
-    if !inspection::has_member(&t.areas) {
+    if has_access(t, a, b) { 0 } else { 10 }
+}
+
+// The refusal of the removal of what access rests on: 11 if an import or export pair lacks access in the state t.
+fn cut_refusal(t: State) -> u8
+    ensures { λ r. ⌜ r ≡ firstMet (resultChecks (site t) Structure false 0 0) ⌝ }
+{
+    if validity::is_valid(t) { 0 } else { 11 }
+}
+
+// The refusal of the removal of an owner: 8 if area a has none in the state t.
+fn disown_refusal(t: State, a: u8) -> u8
+    ensures { λ r. ⌜ r ≡ firstMet (resultChecks (site t) Owner false a 0) ⌝ }
+{
+    if readings::is_owned(t, a) { 0 } else { 8 }
+}
+
+// The refusal of an area's unlisting: 8 if no area is left in the state t, 9 if a pair still names the area.
+fn unlist_refusal(t: State, a: u8) -> u8
+    ensures { λ r. ⌜ r ≡ firstMet (resultChecks (site t) TheArea false a 0) ⌝ }
+{
+    if !inspection::has_area(t) {
         return 8;
     }
-    if names_area(
-        &t.owners,
-        &t.definitions,
-        &t.structure,
-        &t.imports,
-        &t.exports,
-        a,
-    ) {
+    if readings::names_area(t, a) {
         return 9;
     }
     0
 }
 
-// The refusal of an instruction from 8 to 11, of the state t that it would give; 0 if there is none of these.
-pub fn late_refusal(t: State, x: Instruction, a: u8, b: u8) -> u8
-    ensures { λ r. ⌜ r ≡ firstMet (late t x a b) ⌝ }
+// The refusal by a late check, of the state t that the instruction would give; 0 if none is met.
+pub fn late_refusal(t: State, rule: Rule, a: u8, b: u8) -> u8
+    ensures { λ r. ⌜ r ≡ firstMet (resultChecks (site t) (rule .target) (rule .adds) a b) ⌝ }
 {
-    match x {
-        Instruction::UnlistArea => unlist_refusal(t, a),
-        Instruction::RemoveOwner => { if rows::in_column(&t.owners, a) { 0 } else { 8 } }
-        Instruction::AddImport | Instruction::AddExport => {
-            if has_access(t, a, b) { 0 } else { 10 }
+    let target = rule.target;
+    let adds = rule.adds;
+    match target {
+        Target::TheArea => { if adds { 0 } else { unlist_refusal(t, a) } }
+        Target::Owner => { if adds { 0 } else { disown_refusal(t, a) } }
+        Target::Definition => { if adds { 0 } else { cut_refusal(t) } }
+        Target::Structure => { if adds { 0 } else { cut_refusal(t) } }
+        Target::Import => {
+            if adds {
+                entry_refusal(t, a, b)
+            } else {
+                cut_refusal(t)
+            }
         }
-        Instruction::RemoveStructure
-        | Instruction::RemoveDefinition
-        | Instruction::RemoveImport
-        | Instruction::RemoveExport => { if validity::is_valid(t) { 0 } else { 11 } }
-        Instruction::ListArea
-        | Instruction::AddOwner
-        | Instruction::AddStructure
-        | Instruction::Define => 0,
+        Target::Export => {
+            if adds {
+                entry_refusal(t, a, b)
+            } else {
+                cut_refusal(t)
+            }
+        }
     }
 }

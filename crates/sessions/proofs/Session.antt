@@ -9,7 +9,7 @@ use mathlib.Core.List.{List, [], _∷_, _++_}
 use native.Mathlib.Omega.{arith}
 use lib.ListN.{length, getD}
 use Rattle.state.specs.Site.{founding}
-use Rattle.state.specs.declared.State.{State}
+use Rattle.state.specs.Site.{Site}
 use Rattle.soundness.specs.Sound.{Sound}
 use Rattle.soundness.proofs.Laws.{founding-sound}
 use Rattle.instructions.specs.Instructions.{fourBytes}
@@ -20,28 +20,28 @@ use Rattle.lines.specs.declared.Line.{Line}
 use Rattle.lines.specs.declared.Line.the-variants.{Unreadable, Readable}
 use Rattle.sessions.specs.Session.{obeyed, resultsFrom, stateAfter, instructionsOf}
 
-pub after-append : (s : State) (before after : List Line) → stateAfter s (before ++ after) ≡ stateAfter (stateAfter s before) after
+pub after-append : (s : Site) (before after : List Line) → stateAfter s (before ++ after) ≡ stateAfter (stateAfter s before) after
 unfolding stateAfter
 after-append s [] after = refl
 after-append s (line ∷ before) after = after-append (obeyed s line .state) before after
 
-pub after-run : (s : State) (lines : List Line) → stateAfter s lines ≡ run s (instructionsOf lines)
+pub after-run : (s : Site) (lines : List Line) → stateAfter s lines ≡ run s (instructionsOf lines)
 unfolding stateAfter
 after-run s [] = sym (run-none s)
 after-run s (Unreadable ∷ lines) = after-run s lines
 after-run s (Readable c u a b ∷ lines) =
     after-run (stepOf s (fourBytes c u a b) .state) lines ∙ sym (run-more s (fourBytes c u a b) (instructionsOf lines))
 
-pub results-length : (s : State) (lines : List Line) → length (resultsFrom s lines) ≡ length lines
+pub results-length : (s : Site) (lines : List Line) → length (resultsFrom s lines) ≡ length lines
 unfolding resultsFrom
 results-length s [] = refl
 results-length s (line ∷ lines) = ap suc (results-length (obeyed s line .state) lines)
 
-result-small : (s : State) (line : Line) → obeyed s line .refusal < 100
+result-small : (s : Site) (line : Line) → obeyed s line .refusal < 100
 result-small s Unreadable = omega arith
 result-small s (Readable c u a b) = two-digits s (fourBytes c u a b)
 
-pub results-small : (s : State) (lines : List Line) (i : ℕ) → getD (resultsFrom s lines) i 0 < 100
+pub results-small : (s : Site) (lines : List Line) (i : ℕ) → getD (resultsFrom s lines) i 0 < 100
 unfolding resultsFrom
 results-small s [] i = omega arith
 results-small s (line ∷ lines) zero = result-small s line

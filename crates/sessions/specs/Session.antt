@@ -3,27 +3,27 @@
 use Prim.Native.Nat.{ℕ}
 use mathlib.Core.List.{List, [], _∷_}
 use Rattle.state.specs.Site.{founding}
-use Rattle.state.specs.declared.State.{State}
+use Rattle.state.specs.Site.{Site}
 use Rattle.instructions.specs.Instructions.{Bytes, fourBytes}
-use Rattle.machine.specs.Step.{outcomeOf, stepOf}
-use Rattle.machine.specs.declared.Outcome.{Outcome}
+use Rattle.machine.specs.Step.{stepOf}
+use Rattle.state.specs.Site.{Verdict, verdict}
 use Rattle.lines.specs.Lines.{lineNumber, linesOf}
 use Rattle.lines.specs.declared.Line.{Line}
 use Rattle.lines.specs.declared.Line.the-variants.{Unreadable, Readable}
 
 -- 13, "unreadable line", "belongs to the program alone, before the others". "The state after a refusal is the state
 -- given." A readable line is a step.
-abbrev pub obeyed : State → Line → Outcome
-obeyed s Unreadable = outcomeOf (lineNumber Unreadable) s
+abbrev pub obeyed : Site → Line → Verdict
+obeyed s Unreadable = verdict (lineNumber Unreadable) s
 obeyed s (Readable c u a b) = stepOf s (fourBytes c u a b)
 
 -- the result of each line: 0 or its refusal
-unfoldable pub resultsFrom : State → List Line → List ℕ
+unfoldable pub resultsFrom : Site → List Line → List ℕ
 resultsFrom s [] = []
 resultsFrom s (line ∷ rest) = obeyed s line .refusal ∷ resultsFrom (obeyed s line .state) rest
 
 -- the state after the lines
-unfoldable pub stateAfter : State → List Line → State
+unfoldable pub stateAfter : Site → List Line → Site
 stateAfter s [] = s
 stateAfter s (line ∷ rest) = stateAfter (obeyed s line .state) rest
 
@@ -37,5 +37,5 @@ instructionsOf (Readable c u a b ∷ rest) = fourBytes c u a b ∷ instructionsO
 unfoldable pub sessionResults : (input : List ℕ) → List ℕ
 sessionResults input = resultsFrom founding (linesOf input)
 
-unfoldable pub sessionState : (input : List ℕ) → State
+unfoldable pub sessionState : (input : List ℕ) → Site
 sessionState input = stateAfter founding (linesOf input)

@@ -10,7 +10,7 @@ use lib.Dec.{T}
 use lib.ListN.{length, getD, length-append}
 use Rattle.state.specs.Site.{Kind, user, area, object, owner, definition, structure, import, export, limit, firstKind, related}
 use Rattle.state.specs.Walk.{somePair}
-use Rattle.state.specs.declared.State.{State}
+use Rattle.state.specs.Site.{Site}
 use Rattle.state.proofs.Bools.{is-true}
 use Rattle.state.proofs.Laws.{some-pair}
 use Rattle.soundness.specs.Sound.{Sound}
@@ -72,7 +72,7 @@ most-small (pairsOf import) = omega arith
 most-small (pairsOf export) = omega arith
 most-small labels = omega arith
 
-module _ (s : State) (l : List ℕ) (h : Sound s) (law : Lawful s l) where
+module _ (s : Site) (l : List ℕ) (h : Sound s) (law : Lawful s l) where
   -- ---- how long the tables are
   defined-once : (o a b : ℕ) → T (related s definition o a) → T (related s definition o b) → a ≡ b
   defined-once o a b p q =

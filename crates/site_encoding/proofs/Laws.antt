@@ -3,7 +3,7 @@
 use Prim.Native.Nat.{ℕ}
 use mathlib.Core.Path.{_≡_, sym, subst, _∙_, refl}
 use mathlib.Core.List.{List}
-use Rattle.state.specs.declared.State.{State}
+use Rattle.state.specs.Site.{Site}
 use Rattle.label_tables.specs.Labels.{LawfulBlock}
 use Rattle.label_tables.proofs.Laws.{one-block}
 use Rattle.site_format.specs.Format.{AreBytes, labels, part}
@@ -16,9 +16,9 @@ use Rattle.site_encoding.specs.Claims.{Accepted, Encoding}
 use Rattle.site_encoding.proofs.Accept
 use Rattle.site_encoding.proofs.Encoded
 
-encoding : (file : List ℕ) → AreBytes file → (s : State) (l : List ℕ) → Accepted file s l → Encoding file s l
+encoding : (file : List ℕ) → AreBytes file → (s : Site) (l : List ℕ) → Accepted file s l → Encoding file s l
 encoding file bytes s l a =
-    subst (λ (t : State). Encoding file t l) (sym (state-read file (a .no-refusal)) ∙ a .state)
+    subst (λ (t : Site). Encoding file t l) (sym (state-read file (a .no-refusal)) ∙ a .state)
     (subst (Encoding file (stateIn file)) (a .block)
     (record { sound = state-sound file k; lawful = Accept.lawful file k; encoded = Accept.encoded file k bytes }))
   where

@@ -6,14 +6,14 @@ use mathlib.Core.List.{List, [], _∷_, _++_, append-assoc, append-nil}
 use lib.Dec.{T, eqb, eqb-refl}
 use lib.ListN.{length, take, drop, length-append}
 use lib.Seq.{take-append-seam, drop-append-seam}
-use Rattle.state.specs.declared.State.{State}
+use Rattle.state.specs.Site.{Site}
 use Rattle.state.proofs.Bools.{and-both}
 use Rattle.site_format.specs.Format.{Content, offsetIn, sizeIn, part}
 use Rattle.site_header.specs.Header.{placedFrom}
 use Rattle.site_format.proofs.Tables.{Each}
 use Rattle.site_encoding.specs.Encode.{contentOf, bodyOf}
 
-module _ (file : List ℕ) (s : State) (l : List ℕ) where
+module _ (file : List ℕ) (s : Site) (l : List ℕ) where
   -- the header states of each table where it stands and how many bytes it has
   abbrev pub Stated : List Content → ℕ → Type 0
   Stated [] at = Unit

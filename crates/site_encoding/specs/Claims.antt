@@ -4,7 +4,7 @@ use Prim.Native.Nat.{ℕ}
 use mathlib.Core.Path.{_≡_}
 use mathlib.Core.Logic.{_↔_}
 use mathlib.Core.List.{List}
-use Rattle.state.specs.declared.State.{State}
+use Rattle.state.specs.Site.{Site}
 use Rattle.soundness.specs.Sound.{Sound}
 use Rattle.site_format.specs.Format.{AreBytes, labels, part}
 use Rattle.site_file.specs.Reading.{fileRefusal, readOf}
@@ -12,27 +12,27 @@ use Rattle.label_finder.specs.Finder.{labelText}
 use Rattle.site_encoding.specs.Encode.{Lawful, encode}
 
 -- the file is accepted, with this state and this label block
-pub record Accepted (file : List ℕ) (s : State) (l : List ℕ) : Type 0 where
+pub record Accepted (file : List ℕ) (s : Site) (l : List ℕ) : Type 0 where
   pub no-refusal : fileRefusal file ≡ 0
   pub state : readOf file .state ≡ s
   pub block : part file labels ≡ l
 
 -- the file is the encoding of a sound state and its labels
-pub record Encoding (file : List ℕ) (s : State) (l : List ℕ) : Type 0 where
+pub record Encoding (file : List ℕ) (s : Site) (l : List ℕ) : Type 0 where
   pub sound : Sound s
   pub lawful : Lawful s l
   pub encoded : file ≡ encode s l
 
 -- Demand 2: a site file is accepted exactly when it is the single encoding of a sound state and its labels.
 abbrev pub SingleEncoding : Type 0
-SingleEncoding = (file : List ℕ) → AreBytes file → (s : State) (l : List ℕ) → Accepted file s l ↔ Encoding file s l
+SingleEncoding = (file : List ℕ) → AreBytes file → (s : Site) (l : List ℕ) → Accepted file s l ↔ Encoding file s l
 
 -- so no two files stand for one state and labels, and no file for two
 abbrev pub OneFile : Type 0
-OneFile = (f g : List ℕ) → AreBytes f → AreBytes g → (s : State) (l : List ℕ) → Accepted f s l → Accepted g s l → f ≡ g
+OneFile = (f g : List ℕ) → AreBytes f → AreBytes g → (s : Site) (l : List ℕ) → Accepted f s l → Accepted g s l → f ≡ g
 
 abbrev pub OneMeaning : Type 0
-OneMeaning = (file : List ℕ) (s t : State) (l m : List ℕ) → Encoding file s l → Encoding file t m → (s ≡ t) × (l ≡ m)
+OneMeaning = (file : List ℕ) (s t : Site) (l m : List ℕ) → Encoding file s l → Encoding file t m → (s ≡ t) × (l ≡ m)
 
 -- Of labels as area and text: two accepted files with one state and, for every area, one label's text, or none in both,
 -- are the same bytes
@@ -43,7 +43,7 @@ OneFileOfTexts =
 
 -- and each sound state with lawful labels has a file: its encoding is bytes, and is accepted with them
 abbrev pub EncodeBytes : Type 0
-EncodeBytes = (s : State) (l : List ℕ) → Sound s → Lawful s l → AreBytes (encode s l)
+EncodeBytes = (s : Site) (l : List ℕ) → Sound s → Lawful s l → AreBytes (encode s l)
 
 abbrev pub EncodeAccepted : Type 0
-EncodeAccepted = (s : State) (l : List ℕ) → Sound s → Lawful s l → Accepted (encode s l) s l
+EncodeAccepted = (s : Site) (l : List ℕ) → Sound s → Lawful s l → Accepted (encode s l) s l

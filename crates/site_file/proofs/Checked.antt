@@ -10,7 +10,8 @@ use borrow.Author.Tests.{le-ltb, eq-eqb}
 use lib.Dec.{T, eqb, ltb, eqb→eq, nltb→le}
 use lib.ListN.{length}
 use Rattle.state.proofs.Bools.{is-true, fails, so-not, so, neither}
-use Rattle.state.proofs.Checks.{passed, none-met, Passed, all-passed}
+use Rattle.state.proofs.Checks.{passed, none-met, none-met-at}
+use Rattle.state.specs.Checks.{metAt}
 use Rattle.soundness.specs.Sound.{Sound}
 use Rattle.soundness.specs.Tests.{isConsistent, isValid}
 use Rattle.label_tables.specs.Labels.{labelsListed}
@@ -18,6 +19,7 @@ use Rattle.site_format.specs.Format.{headerSize, Content, labels, layoutOf, tab
 use Rattle.site_format.proofs.Tables.{test-of, by-test}
 use Rattle.site_header.proofs.Laws.{part-size}
 use Rattle.site_header.specs.Header.{countsFit, placedFrom}
+use Rattle.site_file.specs.Claims
 use Rattle.site_file.specs.Reading.{tablesFit, tablesAscend, stateIn, noOwner, definedTwice, fileChecks, fileRefusal, readOf}
 use Rattle.site_file.proofs.Held.{derived, shaped, sound-by}
 
@@ -53,29 +55,32 @@ joined none unnamed unlisted twice s = rw (s .0, s .1, s .2, s .3) refl
 not-above : (m n : ℕ) → n ≤ m → T (not (ltb m n))
 not-above m n h = rw (le-ltb m n h) tt
 
-pub checked : (file : List ℕ) → fileRefusal file ≡ 0 → Checked file
+pub accepted-meets-none : Claims.AcceptedMeetsNone
 unfolding fileRefusal
+accepted-meets-none file e n = none-met-at (fileChecks file) tt e n
+
+pub checked : (file : List ℕ) → fileRefusal file ≡ 0 → Checked file
 checked file e =
     record {
-      header-long = nltb→le (length file) 28 (so-not (ltb (length file) 28) (fails (p .0)));
-      version-known = eqb→eq (field file 0) 1 (so (eqb (field file 0) 1) (p .1 .0));
-      length-stated = eqb→eq (field file 2) (length file) (so (eqb (field file 2) (length file)) (p .1 .1 .0));
-      counts-fit = λ c. nltb→le (layoutOf c .most) (countIn file c) (test-of (λ x. not (ltb (layoutOf x .most) (countIn file x))) (so (countsFit file) (p .1 .1 .1 .0)) c);
-      placed = so (placedFrom file tables headerSize) (p .1 .1 .1 .1 .0);
-      in-range = test-of (λ x. contentFits x (part file x)) (so (tablesFit file) (p .1 .1 .1 .1 .1 .0));
-      ascends = test-of (λ x. contentAscends x (part file x)) (so (tablesAscend file) (p .1 .1 .1 .1 .1 .1 .0));
+      header-long = nltb→le (length file) 28 (so-not (ltb (length file) 28) (fails (p 21)));
+      version-known = eqb→eq (field file 0) 1 (so (eqb (field file 0) 1) (p 22));
+      length-stated = eqb→eq (field file 2) (length file) (so (eqb (field file 2) (length file)) (p 23));
+      counts-fit = λ c. nltb→le (layoutOf c .most) (countIn file c) (test-of (λ x. not (ltb (layoutOf x .most) (countIn file x))) (so (countsFit file) (p 24)) c);
+      placed = so (placedFrom file tables headerSize) (p 25);
+      in-range = test-of (λ x. contentFits x (part file x)) (so (tablesFit file) (p 26));
+      ascends = test-of (λ x. contentAscends x (part file x)) (so (tablesAscend file) (p 27));
       owned = q .0;
       named = so (isConsistent (stateIn file)) (q .1);
       labelled = so (labelsListed (stateIn file .areas) (part file labels)) (q .2);
       defined-once = q .3;
-      valid = so (isValid (stateIn file)) (p .1 .1 .1 .1 .1 .1 .1 .1 .0);
+      valid = so (isValid (stateIn file)) (p 29);
     }
   where
-    p : Passed (fileChecks file)
-    p = all-passed (fileChecks file) tt e
+    p : (n : ℕ) → metAt n (fileChecks file) ≡ false
+    p = accepted-meets-none file e
 
     q : Passed28 (noOwner (stateIn file)) (not (isConsistent (stateIn file))) (not (labelsListed (stateIn file .areas) (part file labels))) (definedTwice (stateIn file))
-    q = parts (noOwner (stateIn file)) (not (isConsistent (stateIn file))) (not (labelsListed (stateIn file .areas) (part file labels))) (definedTwice (stateIn file)) (p .1 .1 .1 .1 .1 .1 .1 .0)
+    q = parts (noOwner (stateIn file)) (not (isConsistent (stateIn file))) (not (labelsListed (stateIn file .areas) (part file labels))) (definedTwice (stateIn file)) (p 28)
 
 pub accepted : (file : List ℕ) → Checked file → fileRefusal file ≡ 0
 unfolding fileRefusal

@@ -7,7 +7,7 @@ use mathlib.Core.List.{List}
 use lib.Dec.{T}
 use Rattle.state.specs.Walk.{somePair}
 use Rattle.state.specs.Site.{area, object, listed, Shaped}
-use Rattle.state.specs.declared.State.{State}
+use Rattle.state.specs.Site.{Site}
 use Rattle.state.proofs.Bools.{is-false, not-so, same-test}
 use Rattle.state.proofs.Laws.{some-pair}
 use Rattle.soundness.specs.Tests.{isConsistent, isAcceptable, someListed, isWellFormed}
@@ -27,7 +27,7 @@ joined true true false labelled = refl
 joined false twice true labelled = refl
 joined false twice false labelled = refl
 
-module _ (s : State) (d : Derived s) (shape : Shaped s) where
+module _ (s : Site) (d : Derived s) (shape : Shaped s) where
   -- it is acceptable where each object is defined once
   acceptable-is : isAcceptable s ≡ not (definedTwice s)
   acceptable-is =

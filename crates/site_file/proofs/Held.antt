@@ -11,7 +11,7 @@ use lib.ListN.{length}
 use Rattle.state.specs.Cells.{Pairs, width, member, pair}
 use Rattle.state.specs.Site.{Kind, user, area, object, limit, listed, members, Relation, owner, definition, structure, import, export, firstKind, cells, related, empty, Shaped}
 use Rattle.state.specs.Walk.{somePair, hasFirst, hasSecond}
-use Rattle.state.specs.declared.State.{State}
+use Rattle.state.specs.Site.{Site}
 use Rattle.state.proofs.Bools.{and-both, and-left, and-right, is-false, fails, not-so, so}
 use Rattle.state.proofs.Laws.{some-pair, has-first, has-second, related-inside, empty-related, empty-shaped}
 use Rattle.rows.specs.Rows.{firsts, seconds}
@@ -26,7 +26,7 @@ use Rattle.site_file.specs.Reading.{relationIn, stateIn, noOwner, define
 use Rattle.pair_tables.proofs.Laws.{with-pairs-length, with-pairs-reads}
 
 -- the lists of the state are those that its owner and definition pairs name
-pub record Derived (s : State) : Type 0 where
+pub record Derived (s : Site) : Type 0 where
   pub users : s .users ≡ firsts 32 (s .owners)
   pub areas : s .areas ≡ seconds (s .owners)
   pub objects : s .objects ≡ firsts 64 (s .definitions)
@@ -63,7 +63,7 @@ module _ (file : List ℕ) where
       relations r = ap length (relation-in r) ∙ with-pairs-length (part file (pairsOf r)) (cells empty r) ∙ empty-shaped .relations r
 
 -- ---- a state whose lists follow from its pairs
-module _ (s : State) (d : Derived s) where
+module _ (s : Site) (d : Derived s) where
   users-read : (u : ℕ) → listed s user u ≡ (ltb u 32 && hasFirst (s .owners) u)
   users-read u = ap (λ (l : List Bool). member l u) (d .users) ∙ firsts-reads 32 (s .owners) u
 
@@ -77,7 +77,7 @@ module _ (s : State) (d : Derived s) where
 listed-by : (n : ℕ) (b c : Bool) (i : ℕ) → i < n → b ≡ (ltb i n && c) → T c → T b
 listed-by n b c i h e t = subst T (sym e) (and-both (ltb i n) c (lt→ltb i n h) t)
 
-pub derived-lists : (s : State) → Derived s → Shaped s → ListsNamed s
+pub derived-lists : (s : Site) → Derived s → Shaped s → ListsNamed s
 derived-lists s d shape user u = (
   λ t. has-first (s .owners) u .0 (and-right (ltb u 32) (hasFirst (s .owners) u) (subst T (users-read s d u) t)),
   λ n. listed-by 32 (listed s user u) (hasFirst (s .owners) u) u (related-inside s owner u (n .0) shape (n .1) .0) (users-read s d u) (has-first (s .owners) u .1 n),
@@ -92,7 +92,7 @@ derived-lists s d shape object o = (
 )
 
 -- ---- a state whose lists follow from its pairs is sound where the checks pass
-module _ (s : State) (d : Derived s) (shape : Shaped s) where
+module _ (s : Site) (d : Derived s) (shape : Shaped s) where
   twice-by : (o a b : ℕ) → T (related s definition o a) → T (related s definition o b) → (b ≡ a → ⊥) → T (definedTwice s)
   twice-by o a b p q ne =
       some-pair (s .definitions) (definedElsewhere s) .1
@@ -128,7 +128,7 @@ module _ (s : State) (d : Derived s) (shape : Shaped s) where
       pair = some-pair (s .owners) (λ u a. true) .0 (so (somePair (s .owners) (λ u a. true)) owned)
 
 -- in an acceptable state whose pairs name listed objects, none is defined twice
-pub not-twice : (s : State) → ((o : ℕ) → T (listed s object o) → DefinedOnce s o) → ((o a : ℕ) → T (related s definition o a) → T (listed s object o)) → definedTwice s ≡ false
+pub not-twice : (s : Site) → ((o : ℕ) → T (listed s object o) → DefinedOnce s o) → ((o a : ℕ) → T (related s definition o a) → T (listed s object o)) → definedTwice s ≡ false
 not-twice s once named = is-false (definedTwice s) none
   where
     none : T (definedTwice s) → ⊥

@@ -3,14 +3,15 @@
 use Prim.Native.Nat.{ℕ}
 use mathlib.Core.Path.{_≡_, sym, ap, subst, refl}
 use mathlib.Core.Bool.{Bool, cond}
-use mathlib.Core.List.{List}
+use mathlib.Core.List.{List, _∷_}
 use native.Mathlib.Decide.{ℕ-discrete}
 use borrow.Author.Tests.{ne-eqb}
 use Rattle.state.specs.Site.{founding}
+use Rattle.state.specs.Checks.{among}
 use Rattle.state.proofs.Checks.{first-meets}
 use Rattle.soundness.specs.Sound.{Sound}
 use Rattle.soundness.proofs.Laws.{founding-sound}
-use Rattle.site_file.specs.Reading.{stateIn, fileChecks, fileRefusal, readOf}
+use Rattle.site_file.specs.Reading.{stateIn, fileChecks, readNumbers, fileRefusal, readOf}
 use Rattle.site_file.specs.Claims
 use Rattle.site_file.proofs.Checked.{checked, state-sound, state-read}
 
@@ -21,7 +22,7 @@ refused-founding file ne = ap (λ (b : Bool). cond b (stateIn file) founding) (n
 
 pub read-numbers : Claims.ReadNumbers
 unfolding fileRefusal
-read-numbers file = first-meets Claims.isReadNumber (fileChecks file) tt tt
+read-numbers file = first-meets (λ n. among n (0 ∷ readNumbers)) (fileChecks file) tt tt
 
 pub read-number : Claims.ReadNumber
 unfolding readOf

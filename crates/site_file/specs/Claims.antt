@@ -1,16 +1,16 @@
 -- What is claimed of the reader. The single encoding is a claim of crate `site_encoding`. Each claim is a type, which
--- proofs/Laws.antt inhabits under the claim's name.
+-- proofs/Laws.antt inhabits under the claim's name; AcceptedMeetsNone is proved in proofs/Checked.antt.
 use Prim.Native.Nat.{ℕ, _≤_}
 use mathlib.Core.Path.{_≡_}
-use mathlib.Core.Bool.{Bool, _&&_, _||_}
-use mathlib.Core.List.{List, [], _∷_}
-use lib.Dec.{T, eqb, ltb}
+use mathlib.Core.Bool.{false}
+use mathlib.Core.List.{List, _∷_}
+use lib.Dec.{T}
 use lib.ListN.{length}
 use Rattle.state.specs.Site.{founding}
 use Rattle.soundness.specs.Sound.{Sound}
-use Rattle.state.specs.Checks.{numbers}
+use Rattle.state.specs.Checks.{numbers, metAt, among}
 use Rattle.site_format.specs.Format.{field}
-use Rattle.site_file.specs.Reading.{fileChecks, fileRefusal, readOf}
+use Rattle.site_file.specs.Reading.{fileChecks, readNumbers, fileRefusal, readOf}
 
 -- Demand 1: a site file of any bytes gets a sound state or a refusal number; the state beside the number is sound as
 -- well
@@ -22,18 +22,20 @@ abbrev pub RefusedFounding : Type 0
 RefusedFounding = (file : List ℕ) → (fileRefusal file ≡ 0 → ⊥) → readOf file .state ≡ founding
 
 -- 0, or a number of the table: "Reader refusals"
-abbrev pub isReadNumber : ℕ → Bool
-isReadNumber n = eqb n 0 || (ltb 20 n && ltb n 30)
-
 abbrev pub ReadNumbers : Type 0
-ReadNumbers = (file : List ℕ) → T (isReadNumber (fileRefusal file))
+ReadNumbers = (file : List ℕ) → T (among (fileRefusal file) (0 ∷ readNumbers))
 
+-- a file is accepted only where no condition is met, whichever number is asked for
+abbrev pub AcceptedMeetsNone : Type 0
+AcceptedMeetsNone = (file : List ℕ) → fileRefusal file ≡ 0 → (n : ℕ) → metAt n (fileChecks file) ≡ false
+
+-- the number beside the state is that of the table
 abbrev pub ReadNumber : Type 0
 ReadNumber = (file : List ℕ) → readOf file .refusal ≡ fileRefusal file
 
 -- "Reader refusals, lowest number first over the whole file"
 abbrev pub FileOrder : Type 0
-FileOrder = (file : List ℕ) → numbers (fileChecks file) ≡ 21 ∷ 22 ∷ 23 ∷ 24 ∷ 25 ∷ 26 ∷ 27 ∷ 28 ∷ 29 ∷ []
+FileOrder = (file : List ℕ) → numbers (fileChecks file) ≡ readNumbers
 
 -- "A header of 28 bytes, all fields 16 bits, low byte first: version (1), file length": what an accepted file states
 pub record HeaderStates (file : List ℕ) : Type 0 where

@@ -1,10 +1,11 @@
 // Site files: any bytes get a sound state or a refusal number.
 ghost use mathlib.Core.Path.{_≡_};
 ghost use Rattle.state.specs.Checks.{firstMet};
-ghost use Rattle.state.specs.Site.{founding};
+ghost use Rattle.state.specs.Site.{founding, verdict};
+ghost use Rattle.state.specs.Stands.{site};
 ghost use Rattle.soundness.specs.Sound.{Sound};
 ghost use Rattle.site_format.specs.Format.{labels, part};
-ghost use Rattle.site_file.specs.Reading.{tablesFit, tablesAscend, stateIn, stateChecks, readingOf, readOf};
+ghost use Rattle.site_file.specs.Reading.{tablesFit, tablesAscend, stateIn, stateChecks, readOf};
 use state::State;
 
 // The refusal, 0 for none, and the state that the file holds; beside a refusal, the founding state.
@@ -39,32 +40,26 @@ fn tables_ascend(file: &[u8]) -> bool
 
 // The state that the file holds.
 fn state_in(file: &[u8]) -> State
-    ensures { λ r. ⌜ r ≡ stateIn (now (file .entry)) ⌝ }
+    ensures { λ r. ⌜ site r ≡ stateIn (now (file .entry)) ⌝ }
 {
-    let mut s = State::empty();
-    pair_tables::fill_32(&mut s.owners, site_format::owners(file));
-    pair_tables::fill_64(&mut s.definitions, site_format::definitions(file));
-    pair_tables::fill_32(&mut s.structure, site_format::structure(file));
-    pair_tables::fill_64(&mut s.imports, site_format::imports(file));
-    pair_tables::fill_64(&mut s.exports, site_format::exports(file));
-    let users = listing::firsts_32(&s.owners);
-    s.users = users;
-    let areas = listing::seconds(&s.owners);
-    s.areas = areas;
-    let objects = listing::firsts_64(&s.definitions);
-    s.objects = objects;
-    s
+    site_tables::state_of(
+        site_format::owners(file),
+        site_format::definitions(file),
+        site_format::structure(file),
+        site_format::imports(file),
+        site_format::exports(file),
+    )
 }
 
 // Of the state that a file holds: the refusal 28 or 29, 0 if there is none.
 fn state_refusal(s: State, file: &[u8]) -> u8
-    requires { ⌜ s ≡ stateIn (now file) ⌝ }
-    ensures { λ r. ⌜ r ≡ firstMet (stateChecks s (part (now (file .entry)) labels)) ⌝ }
+    requires { ⌜ site s ≡ stateIn (now file) ⌝ }
+    ensures { λ r. ⌜ r ≡ firstMet (stateChecks (site s) (part (now (file .entry)) labels)) ⌝ }
 {
     if !inspection::is_well_formed(s) {
         return 28;
     }
-    if !label_tables::all_listed(&s.areas, site_format::labels(file)) {
+    if !site_tables::labels_listed(s, site_format::labels(file)) {
         return 28;
     }
     if !validity::is_valid(s) {
@@ -75,7 +70,7 @@ fn state_refusal(s: State, file: &[u8]) -> u8
 
 // The reading of a file that is refused with this number.
 fn refused(number: u8) -> Reading
-    ensures { λ r. ⌜ r ≡ readingOf number founding ⌝ }
+    ensures { λ r. ⌜ verdict (r .refusal) (site (r .state)) ≡ verdict number founding ⌝ }
 {
     Reading {
         refusal: number,
@@ -85,8 +80,8 @@ fn refused(number: u8) -> Reading
 
 // What a file of any bytes holds, or its refusal with the founding state.
 pub fn read(file: &[u8]) -> Reading
-    ensures equation { λ r. ⌜ r ≡ readOf (now (file .entry)) ⌝ }
-    ensures sound { λ r. ⌜ Sound (r .state) ⌝ }
+    ensures equation { λ r. ⌜ verdict (r .refusal) (site (r .state)) ≡ readOf (now (file .entry)) ⌝ }
+    ensures sound { λ r. ⌜ Sound (site (r .state)) ⌝ }
 {
     let header = site_header::header_refusal(file);
     if header != 0 {

@@ -2,29 +2,42 @@
 --     Each, content-of          a fact of each table
 --     test-of, by-test          what a test of each table says, and what it takes
 --     pair-size                 the size of an element of the five tables of pairs
+--     field-by, size-by         a field of the header, and how many bytes there are, by a table's row
 --     seven, each-of-six        truth values joined from the left, as a function joins them
 -- Assumes nothing.
-use mathlib.Core.Path.{_≡_, refl, sym, ap₂, _∙_}
+use Prim.Native.Nat.{ℕ, zero, suc, _*_}
+use mathlib.Core.Path.{_≡_, refl, sym, ap, ap₂, _∙_}
 use mathlib.Core.Bool.{Bool, true, false, _&&_, and-true, and-assoc}
 use mathlib.Core.List.{List, [], _∷_}
 use lib.Dec.{T}
 use Rattle.state.specs.Site.{Relation, owner, definition, structure, import, export}
 use Rattle.state.proofs.Bools.{and-both, and-left, and-right}
 use Rattle.pair_tables.specs.Pairs.{pairSize}
-use Rattle.site_format.specs.Format.{Content, pairsOf, labels, layoutOf, tables, eachTable}
+use Rattle.site_format.specs.Format.{field, Content, pairsOf, labels, Layout, layoutOf, tables, eachTable, sizeIn}
 
 -- whatever holds of each table in the list
 abbrev pub Each : (Content → Type 0) → List Content → Type 0
 Each P [] = Unit
 Each P (c ∷ rest) = P c × Each P rest
 
+-- what holds of table k of the list, counted from 0
+abbrev At : (Content → Type 0) → List Content → ℕ → Type 0
+At P [] k = Unit
+At P (c ∷ rest) zero = P c
+At P (c ∷ rest) (suc k) = At P rest k
+
+at : (P : Content → Type 0) (cs : List Content) → Each P cs → (k : ℕ) → At P cs k
+at P [] e k = tt
+at P (c ∷ rest) e zero = e .0
+at P (c ∷ rest) e (suc k) = at P rest (e .1) k
+
 pub content-of : (P : Content → Type 0) → Each P tables → (c : Content) → P c
-content-of P e (pairsOf owner) = e .0
-content-of P e (pairsOf definition) = e .1 .0
-content-of P e (pairsOf structure) = e .1 .1 .0
-content-of P e (pairsOf import) = e .1 .1 .1 .0
-content-of P e (pairsOf export) = e .1 .1 .1 .1 .0
-content-of P e labels = e .1 .1 .1 .1 .1 .0
+content-of P e (pairsOf owner) = at P tables e 0
+content-of P e (pairsOf definition) = at P tables e 1
+content-of P e (pairsOf structure) = at P tables e 2
+content-of P e (pairsOf import) = at P tables e 3
+content-of P e (pairsOf export) = at P tables e 4
+content-of P e labels = at P tables e 5
 
 each-test : (test : Content → Bool) (cs : List Content) → T (eachTable cs test) → Each (λ c. T (test c)) cs
 each-test test [] t = tt
@@ -44,6 +57,13 @@ pair-size definition = refl
 pair-size structure = refl
 pair-size import = refl
 pair-size export = refl
+
+-- a field of the header, by where a table's row says that it stands; and how many bytes the table has
+pub field-by : (file : List ℕ) (at : Layout → ℕ) {row named : Layout} {n : ℕ} → n ≡ field file (at row) → row ≡ named → n ≡ field file (at named)
+field-by file at e r = e ∙ ap (λ (l : Layout). field file (at l)) r
+
+pub size-by : (file : List ℕ) (c : Content) {row : Layout} {n : ℕ} → n ≡ field file (row .countAt) → row ≡ layoutOf c → n * row .size ≡ sizeIn file c
+size-by file c e r = ap₂ _*_ (field-by file (λ (l : Layout). l .countAt) e r) (ap (λ (l : Layout). l .size) r)
 
 -- seven joined from the left, joined from the right
 pub seven : (a b c d e f g : Bool) → (((((a && b) && c) && d) && e) && f) && g ≡ a && (b && (c && (d && (e && (f && g)))))

@@ -6,6 +6,10 @@ use lib.ListN.{getD, take, drop}
 use Rattle.state.specs.Site.{Relation, owner, definition, structure, import, export, limit, firstKind}
 use Rattle.pair_tables.specs.Pairs.{pairSize, pairsFit, pairsAscend}
 use Rattle.label_tables.specs.Labels.{labelSize, labelsFit, labelsAscend}
+use Rattle.site_format.specs.declared.Layout as code
+use Rattle.site_format.specs.declared.Table.{Table}
+use Rattle.site_format.specs.declared.Table.the-variants.{Owners, Definitions, Structure}
+use Rattle.site_format.specs.declared.Table.the-variants.{Imports, Exports, Labels}
 
 -- each number of the list is that of a byte
 abbrev pub AreBytes : List ℕ → Type 0
@@ -60,6 +64,20 @@ tables = pairsOf owner ∷ pairsOf definition ∷ pairsOf structure ∷ pairsOf 
 abbrev pub eachTable : List Content → (Content → Bool) → Bool
 eachTable [] test = true
 eachTable (c ∷ rest) test = test c && eachTable rest test
+
+-- ---- the code's tables and rows
+-- what each table holds
+abbrev pub held : Table → Content
+held Owners = pairsOf owner
+held Definitions = pairsOf definition
+held Structure = pairsOf structure
+held Imports = pairsOf import
+held Exports = pairsOf export
+held Labels = labels
+
+-- the numbers of a row
+abbrev pub asLayout : code.Layout → Layout
+asLayout l = record { size = l .size; most = l .most; countAt = l .«count_at»; offsetAt = l .«offset_at» }
 
 -- ---- what a file states of a table
 abbrev pub countIn : (file : List ℕ) → Content → ℕ

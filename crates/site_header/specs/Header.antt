@@ -9,8 +9,11 @@ use Rattle.site_format.specs.Format.{headerSize, field, version, versionAt, len
 use Rattle.site_format.specs.Format.{eachTable, countIn, offsetIn, sizeIn}
 
 -- 24: no count is "above its limit"
+abbrev pub countFits : (file : List ℕ) → Content → Bool
+countFits file c = not (ltb (layoutOf c .most) (countIn file c))
+
 abbrev pub countsFit : (file : List ℕ) → Bool
-countsFit file = eachTable tables (λ c. not (ltb (layoutOf c .most) (countIn file c)))
+countsFit file = eachTable tables (countFits file)
 
 -- 25: each offset, and the end, stand where they should: "Tables follow in that order with no gap, the first at 28, and
 -- the file ends with the last" .. "An empty table has the offset where it would stand."

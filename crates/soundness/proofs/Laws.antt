@@ -8,7 +8,7 @@ use native.Mathlib.Omega.{arith}
 use lib.Dec.{T, eqb}
 use Rattle.state.specs.Walk.{eachPair, hasFirst, hasSecond}
 use Rattle.state.specs.Site.{user, area, Relation, owner, definition, structure, import, export, members, cells, firstKind, listed, related, owns, empty, founding}
-use Rattle.state.specs.declared.State.{State}
+use Rattle.state.specs.Site.{Site}
 use Rattle.state.proofs.Bools.{and-both, and-left, and-right, is-false, fails}
 use Rattle.state.proofs.Laws.{some-member, each-member, each-pair, has-first, has-second, founding-listed, founding-owner, founding-no-pair, founding-shaped, empty-related, empty-shaped}
 use Rattle.access.specs.Lending.{lending}
@@ -34,10 +34,10 @@ valid-decided s =
 
 -- ---- consistent
 -- what the pairs of one relation name is listed
-namedIn : State → Relation → Bool
+namedIn : Site → Relation → Bool
 namedIn s r = named (cells s r) (members s (firstKind r)) (s .areas)
 
-relation-decided : (s : State) (r : Relation) → T (namedIn s r) ↔ ((i j : ℕ) → T (related s r i j) → Named s r i j)
+relation-decided : (s : Site) (r : Relation) → T (namedIn s r) ↔ ((i j : ℕ) → T (related s r i j) → Named s r i j)
 unfolding namedIn
 relation-decided s r =
     let e = named-decided (cells s r) (members s (firstKind r)) (s .areas) in

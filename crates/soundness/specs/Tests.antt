@@ -5,7 +5,7 @@ use mathlib.Core.Bool.{Bool, true, _&&_, _||_, not}
 use lib.Dec.{eqb}
 use Rattle.state.specs.Cells.{Members, Pairs, member}
 use Rattle.state.specs.Walk.{someMember, eachMember, somePair, eachPair, hasFirst, hasSecond}
-use Rattle.state.specs.declared.State.{State}
+use Rattle.state.specs.Site.{Site}
 use Rattle.access.specs.Lending.{lending}
 use Rattle.access.specs.Answer.{access}
 
@@ -13,7 +13,7 @@ use Rattle.access.specs.Answer.{access}
 unfoldable pub named : (pairs : Pairs) (firsts areas : Members) → Bool
 named pairs firsts areas = eachPair pairs (λ i j. member firsts i && member areas j)
 
-abbrev pub isConsistent : State → Bool
+abbrev pub isConsistent : Site → Bool
 isConsistent s =
     named (s .owners) (s .users) (s .areas)
     && named (s .definitions) (s .objects) (s .areas)
@@ -37,7 +37,7 @@ once pairs i = somePair pairs (λ m a. eqb m i && eachPair pairs (λ n b. not (e
 unfoldable pub allDefined : (objects : Members) (definitions : Pairs) → Bool
 allDefined objects definitions = eachMember objects (once definitions)
 
-abbrev pub isAcceptable : State → Bool
+abbrev pub isAcceptable : Site → Bool
 isAcceptable s =
     allOwn (s .users) (s .owners) && allOwned (s .areas) (s .owners) && allDefined (s .objects) (s .definitions)
 
@@ -46,13 +46,13 @@ unfoldable pub someListed : Members → Bool
 someListed set = someMember set (λ i. true)
 
 -- sound but for validity
-abbrev pub isWellFormed : State → Bool
+abbrev pub isWellFormed : Site → Bool
 isWellFormed s = isConsistent s && isAcceptable s && someListed (s .areas)
 
 -- "for each import or export pair the area has access to the object"
-unfoldable pub isValid : State → Bool
+unfoldable pub isValid : Site → Bool
 isValid s =
     eachPair (s .imports) (λ o a. access (lending s o) a) && eachPair (s .exports) (λ o a. access (lending s o) a)
 
-unfoldable pub isSound : State → Bool
+unfoldable pub isSound : Site → Bool
 isSound s = isWellFormed s && isValid s

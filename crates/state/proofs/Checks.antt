@@ -1,16 +1,20 @@
 -- The first check that is met: how the number is found check by check, and what it says that none is met.
 --     met, passed, none-met   the first check decides, or the rest do; or there is none
 --     first-of-two            of two tables in a row, the second counts where none of the first is met
---     Passed, all-passed      no check is met
---     eachNumber, first-meets a test that every number of the table meets
+--     none-met-at             where the number is 0, no condition is met, by its number
+--     first-meets             a test that every number of the table meets
+--     among-meets             a test that each number of a list meets
 -- Assumes nothing.
 use Prim.Native.Nat.{ℕ}
-use mathlib.Core.Path.{_≡_, refl, sym, ap, _∙_}
+use mathlib.Core.Path.{_≡_, refl, sym, ap, subst, _∙_}
+use mathlib.Core.Logic.{_⊎_, inl, inr}
 use mathlib.Core.Bool.{Bool, true, false, _&&_, not, cond}
 use mathlib.Core.List.{List, [], _∷_, _++_}
 use lib.Dec.{T, eqb}
-use Rattle.state.proofs.Bools.{and-left, and-right, is-false, not-so}
-use Rattle.state.specs.Checks.{Check, firstMet}
+use borrow.Author.Tests.{eqb-true}
+use Rattle.state.proofs.Bools.{and-left, and-right, or-cases, is-true, is-false, not-so}
+use Rattle.state.specs.Checks
+use Rattle.state.specs.Checks.{Check, firstMet, metAt, among, eachNumber, numbered}
 
 pub met : (c : Check) (rest : List Check) → c .met ≡ true → firstMet (c ∷ rest) ≡ c .number
 unfolding firstMet
@@ -24,12 +28,7 @@ pub none-met : firstMet [] ≡ 0
 unfolding firstMet
 none-met = refl
 
--- each check's number meets a test
-abbrev pub eachNumber : (ℕ → Bool) → List Check → Bool
-eachNumber test [] = true
-eachNumber test (c ∷ rest) = test (c .number) && eachNumber test rest
-
--- and so does the number that the table gives, if 0 does
+-- what each number of a table meets, its number meets, if 0 does
 pub first-meets : (test : ℕ → Bool) (l : List Check) → T (test 0) → T (eachNumber test l) → T (test (firstMet l))
 unfolding firstMet
 first-meets test [] z n = z
@@ -39,24 +38,33 @@ first-meets test (c ∷ rest) z n = go (c .met) (first-meets test rest z (and-ri
     go true later = and-left (test (c .number)) (eachNumber test rest) n
     go false later = later
 
--- no check has the number 0, which stands for 'none is met'
-abbrev pub numbered : List Check → Bool
-numbered l = eachNumber (λ n. not (eqb n 0)) l
+-- what holds of each number of a list holds of one among them
+abbrev pub eachOf : (ℕ → Bool) → List ℕ → Bool
+eachOf test [] = true
+eachOf test (k ∷ rest) = test k && eachOf test rest
 
-abbrev pub Passed : List Check → Type 0
-Passed [] = Unit
-Passed (c ∷ rest) = (c .met ≡ false) × Passed rest
+pub among-meets : (test : ℕ → Bool) (l : List ℕ) (n : ℕ) → T (eachOf test l) → T (among n l) → T (test n)
+among-meets test [] n e t = absurd t
+among-meets test (k ∷ rest) n e t = go (among-meets test rest n (and-right (test k) (eachOf test rest) e)) (or-cases (eqb n k) (among n rest) t)
+  where
+    go : (T (among n rest) → T (test n)) → T (eqb n k) ⊎ T (among n rest) → T (test n)
+    go later (inl q) = subst (λ (m : ℕ). T (test m)) (sym (eqb-true n k (is-true (eqb n k) q))) (and-left (test k) (eachOf test rest) e)
+    go later (inr q) = later q
 
-pub all-passed : (l : List Check) → T (numbered l) → firstMet l ≡ 0 → Passed l
-all-passed [] n e = tt
-all-passed (c ∷ rest) n e = go (all-passed rest (and-right (not (eqb (c .number) 0)) (numbered rest) n)) (c .met) refl
+pub none-met-at : Checks.NoneMetAt
+none-met-at [] n e k = refl
+none-met-at (c ∷ rest) n e k = go (none-met-at rest (and-right (not (eqb (c .number) 0)) (numbered rest) n)) (c .met) refl
   where
     zero-number : c .number ≡ 0 → ⊥
     zero-number q = not-so (eqb (c .number) 0) (and-left (not (eqb (c .number) 0)) (numbered rest) n) (rw q tt)
 
-    go : (firstMet rest ≡ 0 → Passed rest) → (b : Bool) → c .met ≡ b → (c .met ≡ false) × Passed rest
+    here : (v : Bool) → c .met ≡ false → metAt k rest ≡ false → cond v (c .met) (metAt k rest) ≡ false
+    here true p q = p
+    here false p q = q
+
+    go : (firstMet rest ≡ 0 → (m : ℕ) → metAt m rest ≡ false) → (b : Bool) → c .met ≡ b → metAt k (c ∷ rest) ≡ false
     go others true m = absurd (zero-number (sym (met c rest m) ∙ e))
-    go others false m = (m, others (sym (passed c rest m) ∙ e))
+    go others false m = here (eqb (c .number) k) m (others (sym (passed c rest m) ∙ e) k)
 
 pub first-of-two : (l m : List Check) → T (numbered l) → firstMet (l ++ m) ≡ cond (eqb (firstMet l) 0) (firstMet m) (firstMet l)
 first-of-two [] m n = ap (λ (k : ℕ). cond (eqb k 0) (firstMet m) k) (sym none-met)

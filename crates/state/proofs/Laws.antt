@@ -15,7 +15,7 @@ use Rattle.state.specs.Cells.{Pairs, width, member, mark, pair, put}
 use Rattle.state.specs.Walk.{someMember, somePair, count}
 use Rattle.state.specs.Site.{Kind, user, area, object, limit, members, kindNumber, afterMark, withListed, Relation, owner, definition, structure, import, export, firstKind, cells, related, relationNumber, afterPut, withPair, empty, founding}
 use Rattle.state.specs.Laws
-use Rattle.state.specs.declared.State.{State}
+use Rattle.state.specs.Site.{Site}
 use Rattle.state.proofs.Bools.{is-true, holds, fails, not-so, so-not, not-not}
 use Rattle.state.proofs.Walk.{some-found, some-there, count-within}
 use Rattle.state.proofs.Cells.{member-outside, mark-outside, length-mark, member-same, member-other, member-else, member-kept, member-removed, member-ext, pair-inside, pair-outside, pair-beyond, put-outside, put-past, length-put, pair-same, pair-other, same-or-other, pair-kept, pair-removed, no-member, no-pair, only-zero, only-zeros}
@@ -51,18 +51,18 @@ kind-back user = refl
 kind-back area = refl
 kind-back object = refl
 
-members-list : (s : State) (k : Kind) (i : ℕ) (v : Bool) (l : Kind) → members (withListed s k i v) l ≡ afterMark k i v l (members s l)
+members-list : (s : Site) (k : Kind) (i : ℕ) (v : Bool) (l : Kind) → members (withListed s k i v) l ≡ afterMark k i v l (members s l)
 members-list s k i v user = refl
 members-list s k i v area = refl
 members-list s k i v object = refl
 
-members-same : (s : State) (k : Kind) (i : ℕ) (v : Bool) → members (withListed s k i v) k ≡ mark (members s k) i v
+members-same : (s : Site) (k : Kind) (i : ℕ) (v : Bool) → members (withListed s k i v) k ≡ mark (members s k) i v
 members-same s k i v = members-list s k i v k ∙ written kindNumber kindNamed kind-back k (mark (members s k) i v) (members s k)
 
-members-other : (s : State) (k l : Kind) (i : ℕ) (v : Bool) → (l ≡ k → ⊥) → members (withListed s k i v) l ≡ members s l
+members-other : (s : Site) (k l : Kind) (i : ℕ) (v : Bool) → (l ≡ k → ⊥) → members (withListed s k i v) l ≡ members s l
 members-other s k l i v ne = members-list s k i v l ∙ untouched kindNumber kindNamed kind-back l k (mark (members s l) i v) (members s l) ne
 
-each-set : (P : List Bool → Type 0) (s : State) (k : Kind) (i : ℕ) (v : Bool) (l : Kind) → (l ≡ k → P (mark (members s l) i v)) → P (members s l) → P (members (withListed s k i v) l)
+each-set : (P : List Bool → Type 0) (s : Site) (k : Kind) (i : ℕ) (v : Bool) (l : Kind) → (l ≡ k → P (mark (members s l) i v)) → P (members s l) → P (members (withListed s k i v) l)
 each-set P s k i v l p q = rw (members-list s k i v l) (either kindNumber kindNamed kind-back P l k (mark (members s l) i v) (members s l) p q)
 
 relationNamed : ℕ → Relation
@@ -80,28 +80,28 @@ relation-back structure = refl
 relation-back import = refl
 relation-back export = refl
 
-cells-relate : (s : State) (r : Relation) (i j : ℕ) (v : Bool) (t : Relation) → cells (withPair s r i j v) t ≡ afterPut r i j v t (cells s t)
+cells-relate : (s : Site) (r : Relation) (i j : ℕ) (v : Bool) (t : Relation) → cells (withPair s r i j v) t ≡ afterPut r i j v t (cells s t)
 cells-relate s r i j v owner = refl
 cells-relate s r i j v definition = refl
 cells-relate s r i j v structure = refl
 cells-relate s r i j v import = refl
 cells-relate s r i j v export = refl
 
-cells-same : (s : State) (r : Relation) (i j : ℕ) (v : Bool) → cells (withPair s r i j v) r ≡ put (cells s r) i j v
+cells-same : (s : Site) (r : Relation) (i j : ℕ) (v : Bool) → cells (withPair s r i j v) r ≡ put (cells s r) i j v
 cells-same s r i j v = cells-relate s r i j v r ∙ written relationNumber relationNamed relation-back r (put (cells s r) i j v) (cells s r)
 
-cells-other : (s : State) (r t : Relation) (i j : ℕ) (v : Bool) → (t ≡ r → ⊥) → cells (withPair s r i j v) t ≡ cells s t
+cells-other : (s : Site) (r t : Relation) (i j : ℕ) (v : Bool) → (t ≡ r → ⊥) → cells (withPair s r i j v) t ≡ cells s t
 cells-other s r t i j v ne = cells-relate s r i j v t ∙ untouched relationNumber relationNamed relation-back t r (put (cells s t) i j v) (cells s t) ne
 
-each-relation : (P : List Bool → Type 0) (s : State) (r : Relation) (i j : ℕ) (v : Bool) (t : Relation) → (t ≡ r → P (put (cells s t) i j v)) → P (cells s t) → P (cells (withPair s r i j v) t)
+each-relation : (P : List Bool → Type 0) (s : Site) (r : Relation) (i j : ℕ) (v : Bool) (t : Relation) → (t ≡ r → P (put (cells s t) i j v)) → P (cells s t) → P (cells (withPair s r i j v) t)
 each-relation P s r i j v t p q = rw (cells-relate s r i j v t) (either relationNumber relationNamed relation-back P t r (put (cells s t) i j v) (cells s t) p q)
 
-members-relate : (s : State) (r : Relation) (i j : ℕ) (v : Bool) (k : Kind) → members (withPair s r i j v) k ≡ members s k
+members-relate : (s : Site) (r : Relation) (i j : ℕ) (v : Bool) (k : Kind) → members (withPair s r i j v) k ≡ members s k
 members-relate s r i j v user = refl
 members-relate s r i j v area = refl
 members-relate s r i j v object = refl
 
-cells-list : (s : State) (k : Kind) (i : ℕ) (v : Bool) (r : Relation) → cells (withListed s k i v) r ≡ cells s r
+cells-list : (s : Site) (k : Kind) (i : ℕ) (v : Bool) (r : Relation) → cells (withListed s k i v) r ≡ cells s r
 cells-list s k i v owner = refl
 cells-list s k i v definition = refl
 cells-list s k i v structure = refl
@@ -327,7 +327,7 @@ shaped-by-lengths s us ar os ow de st im ex = record { sets = sets; relations = 
     relations export = ex
 
 -- ---- equal readings
-same-fields : (s t : State) → ((k : Kind) → members s k ≡ members t k) → ((r : Relation) → cells s r ≡ cells t r) → s ≡ t
+same-fields : (s t : Site) → ((k : Kind) → members s k ≡ members t k) → ((r : Relation) → cells s r ≡ cells t r) → s ≡ t
 same-fields s t m c i =
     record {
       users = m user i;

@@ -9,6 +9,7 @@ use denote.Shadow.{shadow}
 use denote.RattleType.{Valss, owns}
 use denote.Struct.Declared
 use Rattle.state.specs.Site.{Shaped}
+use Rattle.state.specs.Stands.{site}
 use Rattle.state.specs.declared.State.{State}
 use Rattle.state.proofs.State.{the-type}
 use Rattle.state.proofs.Laws.{shaped-by-lengths}
@@ -18,8 +19,17 @@ kept : (l : List Bool) {n : ℕ} → length (map (λ v. v) l) ≡ n → length l
 kept l e = sym (length-map l (λ v. v)) ∙ e
 
 -- `owned` is `c .good .0 .1 .1`, where c is the start of a function whose first argument is the state
-pub shaped-by-type : (s : State) (values : Valss (Declared.shape the-type .fields)) → shadow (owns (Declared.shape the-type .fields) (the-type .to s) values) → Shaped s
+pub shaped-by-type : (s : State) (values : Valss (Declared.shape the-type .fields)) → shadow (owns (Declared.shape the-type .fields) (the-type .to s) values) → Shaped (site s)
+unfolding site
 shaped-by-type s values owned =
-    shaped-by-lengths s (kept (s .users) (owned .0 .1 .0 .1)) (kept (s .areas) (owned .1 .0 .1 .0 .1)) (kept (s .objects) (owned .1 .1 .0 .1 .0 .1)) (kept (s .owners) (owned .1 .1 .1 .0 .1 .0 .1))
-    (kept (s .definitions) (owned .1 .1 .1 .1 .0 .1 .0 .1)) (kept (s .structure) (owned .1 .1 .1 .1 .1 .0 .1 .0 .1)) (kept (s .imports) (owned .1 .1 .1 .1 .1 .1 .0 .1 .0 .1))
-    (kept (s .exports) (owned .1 .1 .1 .1 .1 .1 .1 .0 .1 .0 .1))
+    let areas = owned .1 in
+    let objects = areas .1 in
+    let owners = objects .1 in
+    let definitions = owners .1 in
+    let structure = definitions .1 in
+    let imports = structure .1 in
+    let exports = imports .1 in
+    shaped-by-lengths (site s) (kept (s .users) (owned .0 .1 .0 .1)) (kept (s .areas) (areas .0 .1 .0 .1))
+    (kept (s .objects) (objects .0 .1 .0 .1)) (kept (s .owners) (owners .0 .1 .0 .1))
+    (kept (s .definitions) (definitions .0 .1 .0 .1)) (kept (s .structure) (structure .0 .1 .0 .1))
+    (kept (s .imports) (imports .0 .1 .0 .1)) (kept (s .exports) (exports .0 .1 .0 .1))

@@ -11,88 +11,88 @@ use Rattle.state.specs.Cells.{Members, Pairs, width, member, pair, put}
 use Rattle.state.specs.Walk.{someMember, eachMember, somePair, eachPair, hasFirst, hasSecond}
 use Rattle.state.specs.Site.{Kind, user, area, object, limit, listed, withListed, Relation, owner, firstKind}
 use Rattle.state.specs.Site.{related, withPair, empty, founding, counts, Shaped}
-use Rattle.state.specs.declared.State.{State}
+use Rattle.state.specs.Site.{Site}
 
 -- ---- a written number
 abbrev pub ListedSame : Type 0
-ListedSame = (s : State) (k : Kind) (i : ℕ) (v : Bool) → Shaped s → i < limit k → listed (withListed s k i v) k i ≡ v
+ListedSame = (s : Site) (k : Kind) (i : ℕ) (v : Bool) → Shaped s → i < limit k → listed (withListed s k i v) k i ≡ v
 
 abbrev pub ListedOther : Type 0
-ListedOther = (s : State) (k : Kind) (i n : ℕ) (v : Bool) → (n ≡ i → ⊥) → listed (withListed s k i v) k n ≡ listed s k n
+ListedOther = (s : Site) (k : Kind) (i n : ℕ) (v : Bool) → (n ≡ i → ⊥) → listed (withListed s k i v) k n ≡ listed s k n
 
 abbrev pub ListedOtherKind : Type 0
 ListedOtherKind =
-    (s : State) (k l : Kind) (i n : ℕ) (v : Bool) → (l ≡ k → ⊥) → listed (withListed s k i v) l n ≡ listed s l n
+    (s : Site) (k l : Kind) (i n : ℕ) (v : Bool) → (l ≡ k → ⊥) → listed (withListed s k i v) l n ≡ listed s l n
 
 -- a number is the written one, or is listed as before
 abbrev pub ListedElse : Type 0
 ListedElse =
-    (s : State) (k l : Kind) (i n : ℕ) (v : Bool) → ((l ≡ k) × (n ≡ i))
+    (s : Site) (k l : Kind) (i n : ℕ) (v : Bool) → ((l ≡ k) × (n ≡ i))
     ⊎ (listed (withListed s k i v) l n ≡ listed s l n)
 
 -- listing a number unlists none
 abbrev pub ListKeepsListed : Type 0
-ListKeepsListed = (s : State) (k l : Kind) (i n : ℕ) → T (listed s l n) → T (listed (withListed s k i true) l n)
+ListKeepsListed = (s : Site) (k l : Kind) (i n : ℕ) → T (listed s l n) → T (listed (withListed s k i true) l n)
 
 -- unlisting a number lists none
 abbrev pub UnlistAddsNone : Type 0
-UnlistAddsNone = (s : State) (k l : Kind) (i n : ℕ) → T (listed (withListed s k i false) l n) → T (listed s l n)
+UnlistAddsNone = (s : Site) (k l : Kind) (i n : ℕ) → T (listed (withListed s k i false) l n) → T (listed s l n)
 
 -- a number that was unlisted is not listed
 abbrev pub UnlistedGone : Type 0
-UnlistedGone = (s : State) (k : Kind) (i : ℕ) → Shaped s → T (listed (withListed s k i false) k i) → ⊥
+UnlistedGone = (s : Site) (k : Kind) (i : ℕ) → Shaped s → T (listed (withListed s k i false) k i) → ⊥
 
 -- the pairs do not depend on the lists
 abbrev pub ListKeepsPairs : Type 0
 ListKeepsPairs =
-    (s : State) (k : Kind) (i : ℕ) (v : Bool) (r : Relation) (m n : ℕ)
+    (s : Site) (k : Kind) (i : ℕ) (v : Bool) (r : Relation) (m n : ℕ)
     → related (withListed s k i v) r m n ≡ related s r m n
 
 -- ---- a written pair
 abbrev pub RelatedSame : Type 0
 RelatedSame =
-    (s : State) (r : Relation) (i j : ℕ) (v : Bool) → Shaped s → i < limit (firstKind r) → j < limit area
+    (s : Site) (r : Relation) (i j : ℕ) (v : Bool) → Shaped s → i < limit (firstKind r) → j < limit area
     → related (withPair s r i j v) r i j ≡ v
 
 abbrev pub RelatedOther : Type 0
 RelatedOther =
-    (s : State) (r : Relation) (i j m n : ℕ) (v : Bool) → (m ≡ i → n ≡ j → ⊥)
+    (s : Site) (r : Relation) (i j m n : ℕ) (v : Bool) → (m ≡ i → n ≡ j → ⊥)
     → related (withPair s r i j v) r m n ≡ related s r m n
 
 abbrev pub RelatedOtherRelation : Type 0
 RelatedOtherRelation =
-    (s : State) (r t : Relation) (i j m n : ℕ) (v : Bool) → (t ≡ r → ⊥)
+    (s : Site) (r t : Relation) (i j m n : ℕ) (v : Bool) → (t ≡ r → ⊥)
     → related (withPair s r i j v) t m n ≡ related s t m n
 
 -- a pair is the written one, or is there as before
 abbrev pub RelatedElse : Type 0
 RelatedElse =
-    (s : State) (r t : Relation) (i j m n : ℕ) (v : Bool) → ((t ≡ r) × (m ≡ i) × (n ≡ j))
+    (s : Site) (r t : Relation) (i j m n : ℕ) (v : Bool) → ((t ≡ r) × (m ≡ i) × (n ≡ j))
     ⊎ (related (withPair s r i j v) t m n ≡ related s t m n)
 
 -- nor the lists on the pairs
 abbrev pub RelateKeepsLists : Type 0
 RelateKeepsLists =
-    (s : State) (r : Relation) (i j : ℕ) (v : Bool) (k : Kind) (n : ℕ) → listed (withPair s r i j v) k n ≡ listed s k n
+    (s : Site) (r : Relation) (i j : ℕ) (v : Bool) (k : Kind) (n : ℕ) → listed (withPair s r i j v) k n ≡ listed s k n
 
 -- adding a pair removes none
 abbrev pub AddKeepsPairs : Type 0
 AddKeepsPairs =
-    (s : State) (r t : Relation) (i j m n : ℕ) → T (related s t m n) → T (related (withPair s r i j true) t m n)
+    (s : Site) (r t : Relation) (i j m n : ℕ) → T (related s t m n) → T (related (withPair s r i j true) t m n)
 
 -- removing a pair adds none
 abbrev pub RemoveAddsNone : Type 0
 RemoveAddsNone =
-    (s : State) (r t : Relation) (i j m n : ℕ) → T (related (withPair s r i j false) t m n) → T (related s t m n)
+    (s : Site) (r t : Relation) (i j m n : ℕ) → T (related (withPair s r i j false) t m n) → T (related s t m n)
 
 -- a pair that was removed is not there
 abbrev pub RemovedGone : Type 0
-RemovedGone = (s : State) (r : Relation) (i j : ℕ) → Shaped s → T (related (withPair s r i j false) r i j) → ⊥
+RemovedGone = (s : Site) (r : Relation) (i j : ℕ) → Shaped s → T (related (withPair s r i j false) r i j) → ⊥
 
 -- another pair than the one that is written stays
 abbrev pub OthersStay : Type 0
 OthersStay =
-    (s : State) (r t : Relation) (i j m n : ℕ) (v : Bool) → (t ≡ r → m ≡ i → n ≡ j → ⊥) → T (related s t m n)
+    (s : Site) (r t : Relation) (i j m n : ℕ) (v : Bool) → (t ≡ r → m ≡ i → n ≡ j → ⊥) → T (related s t m n)
     → T (related (withPair s r i j v) t m n)
 
 -- ---- a pair put into the cells of a relation by itself, for what fills one before there is a record
@@ -145,27 +145,27 @@ abbrev pub PairFirst : Type 0
 PairFirst = (c : Pairs) (n i j : ℕ) → length c ≡ n * width → T (pair c i j) → i < n
 
 abbrev pub ListedInside : Type 0
-ListedInside = (s : State) (k : Kind) (i : ℕ) → Shaped s → T (listed s k i) → i < limit k
+ListedInside = (s : Site) (k : Kind) (i : ℕ) → Shaped s → T (listed s k i) → i < limit k
 
 abbrev pub RelatedInside : Type 0
 RelatedInside =
-    (s : State) (r : Relation) (i j : ℕ) → Shaped s → T (related s r i j) → (i < limit (firstKind r)) × (j < limit area)
+    (s : Site) (r : Relation) (i j : ℕ) → Shaped s → T (related s r i j) → (i < limit (firstKind r)) × (j < limit area)
 
 -- ---- what lies outside is not there, and writing it changes nothing
 abbrev pub ListedOutside : Type 0
-ListedOutside = (s : State) (k : Kind) (i : ℕ) → Shaped s → limit k ≤ i → listed s k i ≡ false
+ListedOutside = (s : Site) (k : Kind) (i : ℕ) → Shaped s → limit k ≤ i → listed s k i ≡ false
 
 abbrev pub ListOutside : Type 0
-ListOutside = (s : State) (k : Kind) (i : ℕ) (v : Bool) → Shaped s → limit k ≤ i → withListed s k i v ≡ s
+ListOutside = (s : Site) (k : Kind) (i : ℕ) (v : Bool) → Shaped s → limit k ≤ i → withListed s k i v ≡ s
 
 abbrev pub RelatedOutside : Type 0
 RelatedOutside =
-    (s : State) (r : Relation) (i j : ℕ) → Shaped s → (limit (firstKind r) ≤ i) ⊎ (limit area ≤ j)
+    (s : Site) (r : Relation) (i j : ℕ) → Shaped s → (limit (firstKind r) ≤ i) ⊎ (limit area ≤ j)
     → related s r i j ≡ false
 
 abbrev pub RelateOutside : Type 0
 RelateOutside =
-    (s : State) (r : Relation) (i j : ℕ) (v : Bool) → Shaped s → (limit (firstKind r) ≤ i) ⊎ (limit area ≤ j)
+    (s : Site) (r : Relation) (i j : ℕ) (v : Bool) → Shaped s → (limit (firstKind r) ≤ i) ⊎ (limit area ≤ j)
     → withPair s r i j v ≡ s
 
 -- ---- the empty record
@@ -189,7 +189,7 @@ FoundingNoPair = (r : Relation) (i j : ℕ) → (r ≡ owner → ⊥) → relate
 -- what the type of the record says in the code
 abbrev pub ShapedByLengths : Type 0
 ShapedByLengths =
-    (s : State)
+    (s : Site)
     → length (s .users) ≡ 32 → length (s .areas) ≡ 32 → length (s .objects) ≡ 64 → length (s .owners) ≡ 1024
     → length (s .definitions) ≡ 2048
     → length (s .structure) ≡ 1024 → length (s .imports) ≡ 2048 → length (s .exports) ≡ 2048 → Shaped s
@@ -201,19 +201,19 @@ abbrev pub FoundingShaped : Type 0
 FoundingShaped = Shaped founding
 
 abbrev pub ListShaped : Type 0
-ListShaped = (s : State) (k : Kind) (i : ℕ) (v : Bool) → Shaped s → Shaped (withListed s k i v)
+ListShaped = (s : Site) (k : Kind) (i : ℕ) (v : Bool) → Shaped s → Shaped (withListed s k i v)
 
 abbrev pub RelateShaped : Type 0
-RelateShaped = (s : State) (r : Relation) (i j : ℕ) (v : Bool) → Shaped s → Shaped (withPair s r i j v)
+RelateShaped = (s : Site) (r : Relation) (i j : ℕ) (v : Bool) → Shaped s → Shaped (withPair s r i j v)
 
 -- ---- "Each state has one record": two records with equal readings are equal
-pub record SameReadings (s t : State) : Type 0 where
+pub record SameReadings (s t : Site) : Type 0 where
   pub lists : (k : Kind) (i : ℕ) → i < limit k → listed s k i ≡ listed t k i
   pub pairs : (r : Relation) (i j : ℕ) → i < limit (firstKind r) → j < limit area → related s r i j ≡ related t r i j
 
 abbrev pub OneRecord : Type 0
-OneRecord = (s t : State) → Shaped s → Shaped t → SameReadings s t → s ≡ t
+OneRecord = (s t : Site) → Shaped s → Shaped t → SameReadings s t → s ≡ t
 
 -- ---- no count is above 2,048, the places of the largest relation
 abbrev pub CountsAtMost : Type 0
-CountsAtMost = (s : State) → Shaped s → (i : ℕ) → getD (counts s) i 0 ≤ 2048
+CountsAtMost = (s : Site) → Shaped s → (i : ℕ) → getD (counts s) i 0 ≤ 2048

@@ -1,12 +1,14 @@
--- The record of a site (document 01, 'The state'): "A state has three sets of listed users, areas and objects, and five
+-- The state of a site (document 01, 'The state'): "A state has three sets of listed users, areas and objects, and five
 -- relations".
+--     Site                                        the state
 --     Kind, limit, listed, withListed             the three sets
 --     Relation, firstKind, related, withPair      the five relations
 --     owns, defines, inside, imports, exports     the relations by the paper's words
 --     empty, founding                             nothing, and the founding state
---     recordOf                                    a record from its parts
+--     siteOf                                      a state from its parts
 --     counts                                      how many users, areas, objects and pairs there are
 --     Shaped                                      every set and relation has its number of cells
+--     Verdict                                     a refusal's number and a state
 use Prim.Native.Nat.{ℕ, _*_}
 use mathlib.Core.Path.{_≡_}
 use mathlib.Core.Bool.{Bool, true, false, cond}
@@ -15,11 +17,21 @@ use lib.Dec.{eqb}
 use lib.ListN.{length, replicate}
 use Rattle.state.specs.Cells.{Members, Pairs, width, member, mark, pair, put}
 use Rattle.state.specs.Walk.{count}
-use Rattle.state.specs.declared.State.{State}
 
--- the record of three sets and five relations
-abbrev pub recordOf : (users areas objects : Members) (owners definitions structures imported exported : Pairs) → State
-recordOf users areas objects owners definitions structures imported exported =
+-- "three sets of listed users, areas and objects, and five relations"
+pub record Site : Type 0 where
+  pub users : Members
+  pub areas : Members
+  pub objects : Members
+  pub owners : Pairs
+  pub definitions : Pairs
+  pub structure : Pairs
+  pub imports : Pairs
+  pub exports : Pairs
+
+-- the state of three sets and five relations
+abbrev pub siteOf : (users areas objects : Members) (owners definitions structures imported exported : Pairs) → Site
+siteOf users areas objects owners definitions structures imported exported =
     record {
       users = users;
       areas = areas;
@@ -41,13 +53,13 @@ limit user = 32
 limit area = width
 limit object = 64
 
-abbrev pub members : State → Kind → Members
+abbrev pub members : Site → Kind → Members
 members s user = s .users
 members s area = s .areas
 members s object = s .objects
 
 -- is number i listed
-abbrev pub listed : State → Kind → ℕ → Bool
+abbrev pub listed : Site → Kind → ℕ → Bool
 listed s k i = member (members s k) i
 
 -- the kinds told apart by a number
@@ -61,7 +73,7 @@ abbrev pub afterMark : Kind → ℕ → Bool → Kind → Members → Members
 afterMark k i v l before = cond (eqb (kindNumber l) (kindNumber k)) (mark before i v) before
 
 -- the state with number i listed (v true) or not listed (v false)
-abbrev pub withListed : State → Kind → ℕ → Bool → State
+abbrev pub withListed : Site → Kind → ℕ → Bool → Site
 withListed s k i v =
     record {
       users = afterMark k i v user (s .users);
@@ -87,7 +99,7 @@ firstKind structure = area
 firstKind import = object
 firstKind export = object
 
-abbrev pub cells : State → Relation → Pairs
+abbrev pub cells : Site → Relation → Pairs
 cells s owner = s .owners
 cells s definition = s .definitions
 cells s structure = s .structure
@@ -95,7 +107,7 @@ cells s import = s .imports
 cells s export = s .exports
 
 -- is (i, j) a pair of the relation
-abbrev pub related : State → Relation → ℕ → ℕ → Bool
+abbrev pub related : Site → Relation → ℕ → ℕ → Bool
 related s r i j = pair (cells s r) i j
 
 -- the relations told apart by a number: their order in the paper
@@ -111,7 +123,7 @@ abbrev pub afterPut : Relation → ℕ → ℕ → Bool → Relation → Pairs �
 afterPut r i j v t before = cond (eqb (relationNumber t) (relationNumber r)) (put before i j v) before
 
 -- the state with the pair (i, j) in the relation (v true) or without it (v false)
-abbrev pub withPair : State → Relation → ℕ → ℕ → Bool → State
+abbrev pub withPair : Site → Relation → ℕ → ℕ → Bool → Site
 withPair s r i j v =
     record {
       users = s .users;
@@ -125,27 +137,27 @@ withPair s r i j v =
     }
 
 -- user u owns area a
-abbrev pub owns : State → ℕ → ℕ → Bool
+abbrev pub owns : Site → ℕ → ℕ → Bool
 owns s u a = related s owner u a
 
 -- object o is defined in area a
-abbrev pub defines : State → ℕ → ℕ → Bool
+abbrev pub defines : Site → ℕ → ℕ → Bool
 defines s o a = related s definition o a
 
 -- "the inner is in the contents of the outer, the outer in the environment of the inner"
-abbrev pub inside : State → ℕ → ℕ → Bool
+abbrev pub inside : Site → ℕ → ℕ → Bool
 inside s inner outer = related s structure inner outer
 
 -- object o is imported by area a
-abbrev pub imports : State → ℕ → ℕ → Bool
+abbrev pub imports : Site → ℕ → ℕ → Bool
 imports s o a = related s import o a
 
 -- object o is exported by area a
-abbrev pub exports : State → ℕ → ℕ → Bool
+abbrev pub exports : Site → ℕ → ℕ → Bool
 exports s o a = related s export o a
 
 -- no number listed, no pair
-unfoldable pub empty : State
+unfoldable pub empty : Site
 empty =
     record {
       users = replicate 32 false;
@@ -159,11 +171,11 @@ empty =
     }
 
 -- "In the founding state user 0 owns area 0; its 2,048 import places and 2,048 export places are all empty"
-unfoldable pub founding : State
+unfoldable pub founding : Site
 founding = withPair (withListed (withListed empty user 0 true) area 0 true) owner 0 0 true
 
 -- "the counts of users, areas, objects, owner, structure, import and export pairs"
-abbrev pub counts : State → List ℕ
+abbrev pub counts : Site → List ℕ
 counts s =
     count (members s user)
     ∷ count (members s area)
@@ -176,6 +188,14 @@ counts s =
 
 -- Every set and every relation has its number of cells. The type of the record in the code says so; the lists that
 -- stand for its arrays here do not, so the laws that need it ask for it.
-pub record Shaped (s : State) : Type 0 where
+pub record Shaped (s : Site) : Type 0 where
   pub sets : (k : Kind) → length (members s k) ≡ limit k
   pub relations : (r : Relation) → length (cells s r) ≡ limit (firstKind r) * width
+
+-- What an instruction or a site file gets: the number of the refusal, 0 for none, and a state.
+pub record Verdict : Type 0 where
+  pub refusal : ℕ
+  pub state : Site
+
+abbrev pub verdict : ℕ → Site → Verdict
+verdict n s = record { refusal = n; state = s }

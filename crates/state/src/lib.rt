@@ -5,6 +5,7 @@ ghost use mathlib.Core.Bool.{false};
 ghost use lib.ListN.{getD, set};
 ghost use Rattle.state.specs.Cells.{member, mark, pair, put};
 ghost use Rattle.state.specs.Site.{empty, founding};
+ghost use Rattle.state.specs.Stands.{site};
 
 // One cell for each number, and one for each pair, row by row: the cell of (i, j) is i * 32 + j.
 pub struct State {
@@ -27,7 +28,7 @@ impl State {
 
     // Nothing is listed, and there is no pair.
     pub fn empty() -> Self
-        ensures { λ r. ⌜ r ≡ empty ⌝ }
+        ensures { λ r. ⌜ site r ≡ empty ⌝ }
     {
         State {
             users: [false; 32],
@@ -43,7 +44,7 @@ impl State {
 
     // User 0 owns area 0, and there is nothing else.
     pub fn founding() -> Self
-        ensures { λ r. ⌜ r ≡ founding ⌝ }
+        ensures { λ r. ⌜ site r ≡ founding ⌝ }
     {
         let mut s = State::empty();
         s.users[0] = true;

@@ -1,54 +1,53 @@
 // The state that an instruction gives.
 ghost use mathlib.Core.Path.{_≡_};
-ghost use Rattle.successors.specs.Successor.{keepsListed, successor};
+ghost use Rattle.state.specs.Stands.{site};
+ghost use Rattle.successors.specs.Successor.{withoutOwner, changed, successor};
 use instructions::Instruction;
+use instructions::Target;
 use state::State;
 
-// Is the user listed after he lost an area? Only if he owns one still.
-fn keeps_listed<'a>(users: &'a [bool], owners: &'a [bool], user: u8) -> bool
-    ensures { λ r. ⌜ r ≡ keepsListed (now (users .entry)) (now (owners .entry)) user ⌝ }
+// The record in which the user no longer owns the area: he is listed only if he owns one still.
+fn without_owner(s: State, user: u8, area: u8) -> State
+    ensures { λ r. ⌜ site r ≡ withoutOwner (site s) user area ⌝ }
 {
-    state::is_member(users, user) & rows::in_row(owners, user)
+    let left = updates::with_owner(s, user, area, false);
+    let keeps = readings::is_owner(left, user);
+    updates::with_user(left, user, keeps)
+}
+
+// The record with or without what a, b and the activator u stand for.
+fn changed(s: State, target: Target, present: bool, u: u8, a: u8, b: u8) -> State
+    ensures { λ r. ⌜ site r ≡ changed (site s) target present u a b ⌝ }
+{
+    match target {
+        Target::TheArea => {
+            if present {
+                updates::with_owner(updates::with_area(s, a, true), u, a, true)
+            } else {
+                updates::with_area(without_owner(s, u, a), a, false)
+            }
+        }
+        Target::Owner => {
+            if present {
+                updates::with_owner(updates::with_user(s, b, true), b, a, true)
+            } else {
+                without_owner(s, b, a)
+            }
+        }
+        Target::Definition => {
+            updates::with_definition(updates::with_object(s, b, present), b, a, present)
+        }
+        Target::Structure => updates::with_structure(s, a, b, present),
+        Target::Import => updates::with_import(s, b, a, present),
+        Target::Export => updates::with_export(s, b, a, present),
+    }
 }
 
 // The state that the instruction would give, whatever the record and the numbers.
-pub fn successor(mut s: State, x: Instruction, u: u8, a: u8, b: u8) -> State
-    ensures { λ r. ⌜ r ≡ successor s x u a b ⌝ }
+pub fn successor(s: State, x: Instruction, u: u8, a: u8, b: u8) -> State
+    ensures { λ r. ⌜ site r ≡ successor (site s) x u a b ⌝ }
 {
-    match x {
-        Instruction::ListArea => {
-            state::mark_32(&mut s.areas, a, true);
-            state::put_32(&mut s.owners, u, a, true);
-        }
-        Instruction::UnlistArea => {
-            state::put_32(&mut s.owners, u, a, false);
-            let keeps = keeps_listed(&s.users, &s.owners, u);
-            state::mark_32(&mut s.users, u, keeps);
-            state::mark_32(&mut s.areas, a, false);
-        }
-        Instruction::AddOwner => {
-            state::mark_32(&mut s.users, b, true);
-            state::put_32(&mut s.owners, b, a, true);
-        }
-        Instruction::RemoveOwner => {
-            state::put_32(&mut s.owners, b, a, false);
-            let keeps = keeps_listed(&s.users, &s.owners, b);
-            state::mark_32(&mut s.users, b, keeps);
-        }
-        Instruction::AddStructure => state::put_32(&mut s.structure, a, b, true),
-        Instruction::RemoveStructure => state::put_32(&mut s.structure, a, b, false),
-        Instruction::Define => {
-            state::mark_64(&mut s.objects, b, true);
-            state::put_64(&mut s.definitions, b, a, true);
-        }
-        Instruction::RemoveDefinition => {
-            state::mark_64(&mut s.objects, b, false);
-            state::put_64(&mut s.definitions, b, a, false);
-        }
-        Instruction::AddImport => state::put_64(&mut s.imports, b, a, true),
-        Instruction::RemoveImport => state::put_64(&mut s.imports, b, a, false),
-        Instruction::AddExport => state::put_64(&mut s.exports, b, a, true),
-        Instruction::RemoveExport => state::put_64(&mut s.exports, b, a, false),
-    }
-    s
+    let rule = instructions::rule_of(x);
+    let target = rule.target;
+    changed(s, target, rule.adds, u, a, b)
 }

@@ -5,9 +5,9 @@ use mathlib.Core.Path.{_≡_}
 use mathlib.Core.List.{List, [], _∷_, _++_}
 use native.Mathlib.Omega.{arith}
 use lib.ListN.{length, getD, length-append}
-use Rattle.lines.specs.Decimal.{decimal}
+use Rattle.output.specs.Decimal.{decimal}
 use Rattle.lines.specs.Lines.{newline, space}
-use Rattle.lines.proofs.Laws.{decimal-length}
+use Rattle.output.proofs.Laws.{decimal-length}
 use Rattle.transcript.specs.Transcript.{resultLine, resultLines, spaced, stateWord, stateLine}
 
 line-length : (k result : ℕ) → k < 100000 → result < 100 → length (resultLine k result) ≤ 9

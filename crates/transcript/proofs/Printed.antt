@@ -1,10 +1,10 @@
 -- What is printed for an input: the claims, and what the functions use.
 --     session-printed                                     what is printed for a session
 --     too-long-printed, told-printed                      the two transcripts that `write` writes
---     printed-at-most, printed-room                       no transcript has more bytes, so there is room for it
+--     printed-at-most                                     no transcript has more bytes
 -- Assumes nothing.
 use Prim.Native.Nat.{ℕ, _+_, _-_, _*_, _≤_, _<_}
-use mathlib.Core.Path.{_≡_, refl, sym, ap, subst, _∙_}
+use mathlib.Core.Path.{_≡_, refl, ap, _∙_}
 use mathlib.Core.Bool.{Bool, true, false, cond}
 use mathlib.Core.List.{List, _++_}
 use native.Mathlib.Nat.{sub-zero}
@@ -12,7 +12,7 @@ use native.Mathlib.Omega.{arith}
 use borrow.Author.Tests.{lt-ltb, le-ltb, ltb-false}
 use lib.ListN.{length, take, length-append}
 use Rattle.state.specs.Site.{founding, counts}
-use Rattle.state.specs.declared.State.{State}
+use Rattle.state.specs.Site.{Site}
 use Rattle.state.proofs.Laws.{counts-at-most}
 use Rattle.lines.specs.Lines.{linesOf}
 use Rattle.lines.proofs.Laws.{lines-at-most}
@@ -20,7 +20,7 @@ use Rattle.sessions.specs.Session.{resultsFrom, stateAfter, sessionResults, ses
 use Rattle.sessions.proofs.Laws.{session-is-run}
 use Rattle.sessions.proofs.Session.{results-length, results-small, sound-after}
 use Rattle.transcript.specs.Transcript.{resultLines, stateLine, sessionText, mostRead, isTooLong, tooLong, transcriptOf, mostPrinted}
-use Rattle.transcript.specs.Placing.{Told, Room}
+use Rattle.transcript.specs.Obeying.{Told}
 use Rattle.transcript.specs.Claims as Claims
 use Rattle.transcript.proofs.Lengths.{lines-length, state-length}
 
@@ -35,14 +35,14 @@ unfolding transcriptOf
 too-long-printed input long = rw (lt-ltb mostRead (length input) long) refl
 
 -- and any other its results and counts, as the code has them
-pub told-printed : (input results : List ℕ) (lines : ℕ) (s : State) (numbers : List ℕ) → Told input results lines s → numbers ≡ counts s → length input ≤ mostRead
+pub told-printed : (input results : List ℕ) (lines : ℕ) (s : Site) (numbers : List ℕ) → Told input results lines s → numbers ≡ counts s → length input ≤ mostRead
     → sessionText (take (lines - 0) results) numbers ≡ transcriptOf input
 told-printed input results lines s numbers told e fits =
     rw (fitting input (le-ltb mostRead (length input) fits), sub-zero lines, e, told .front, told .ending) refl
 
 pub session-printed : Claims.SessionPrinted
 session-printed input fits =
-    fitting input (le-ltb mostRead (length input) fits) ∙ ap (λ (s : State). sessionText (sessionResults input) (counts s)) (session-is-run input)
+    fitting input (le-ltb mostRead (length input) fits) ∙ ap (λ (s : Site). sessionText (sessionResults input) (counts s)) (session-is-run input)
 
 -- ---- no transcript has more bytes
 results-text : (input : List ℕ) → length input ≤ mostRead → length (resultLines 1 (sessionResults input)) ≤ 9 * mostRead
@@ -74,7 +74,3 @@ printed-at-most input = go (isTooLong input) refl
     go : (b : Bool) → isTooLong input ≡ b → length (cond b tooLong (sessionText (sessionResults input) (counts (sessionState input)))) ≤ mostPrinted
     go true e = omega arith
     go false e = session-length input (ltb-false mostRead (length input) e)
-
--- so there is room for what is laid
-pub printed-room : (input text : List ℕ) → text ≡ transcriptOf input → Room 0 text
-printed-room input text e = let most : length text ≤ mostPrinted = rw e (printed-at-most input) in omega arith

@@ -8,19 +8,17 @@ use native.Mathlib.Numerals.{add-one}
 use native.Mathlib.Omega.{arith}
 use lib.ListN.{length, take, drop, set, length-set, length-drop}
 use lib.Seq.{take-all, drop-drop, drop-length, take-suc-set, append-snoc}
-use Rattle.state.specs.Site.{founding}
-use Rattle.state.specs.declared.State.{State}
-use Rattle.machine.specs.declared.Outcome.{Outcome}
+use Rattle.state.specs.Site.{Site, founding, Verdict}
 use Rattle.lines.specs.Lines.{linesOf, firstLineOf}
 use Rattle.lines.specs.Laws.{Sized}
 use Rattle.lines.specs.declared.First.{First}
 use Rattle.lines.specs.declared.Line.{Line}
 use Rattle.lines.proofs.Laws.{no-line, first-line, first-size}
 use Rattle.sessions.specs.Session.{obeyed, resultsFrom, stateAfter, sessionResults, sessionState}
-use Rattle.transcript.specs.Placing.{Told}
+use Rattle.transcript.specs.Obeying.{Told}
 
 -- ---- the loop: after so many lines, which end at `at`, the rest is still to be obeyed from state s; there are n places for results
-pub record Reached (n : ℕ) (input results : List ℕ) (lines at : ℕ) (s : State) : Type 0 where
+pub record Reached (n : ℕ) (input results : List ℕ) (lines at : ℕ) (s : Site) : Type 0 where
   pub long : length results ≡ n
   pub room : length input ≤ n
   pub within : at ≤ length input
@@ -28,7 +26,7 @@ pub record Reached (n : ℕ) (input results : List ℕ) (lines at : ℕ) (s : St
   pub told : sessionResults input ≡ take lines results ++ resultsFrom s (linesOf (drop at input))
   pub after : sessionState input ≡ stateAfter s (linesOf (drop at input))
 
-pub reached-none : (input results : List ℕ) (s : State) → s ≡ founding → length input ≤ length results → Reached (length results) input results 0 0 s
+pub reached-none : (input results : List ℕ) (s : Site) → s ≡ founding → length input ≤ length results → Reached (length results) input results 0 0 s
 unfolding sessionResults sessionState
 reached-none input results s e room = rw e (record { long = refl; room = room; within = omega arith; fewer = omega arith; told = refl; after = refl })
 
@@ -37,7 +35,7 @@ pub part-from : (xs : List ℕ) (i : ℕ) → take (length xs - i) (drop i xs) �
 part-from xs i = take-all (length xs - i) (drop i xs) (let left : length (drop i xs) ≡ length xs - i = length-drop i xs in omega arith)
 
 -- one line more: the first of those that are left
-module _ (n : ℕ) (input results : List ℕ) (lines at : ℕ) (s : State) (p : Reached n input results lines at s) (more : at < length input) where
+module _ (n : ℕ) (input results : List ℕ) (lines at : ℕ) (s : Site) (p : Reached n input results lines at s) (more : at < length input) where
   some-left : 0 < length (drop at input)
   some-left = let left : length (drop at input) ≡ length input - at = length-drop at input in omega arith
 
@@ -73,7 +71,7 @@ module _ (n : ℕ) (input results : List ℕ) (lines at : ℕ) (s : State) (p : 
   first-takes f first = rw first (size-some, size-within)
 
   -- with what a turn has at hand: the first line f, its outcome o, the results and the state afterwards
-  pub reached-more : (f : First) (o : Outcome) (results′ : List ℕ) (s′ : State) → f ≡ firstLineOf (drop at input) → o ≡ obeyed s (f .line)
+  pub reached-more : (f : First) (o : Verdict) (results′ : List ℕ) (s′ : Site) → f ≡ firstLineOf (drop at input) → o ≡ obeyed s (f .line)
       → results′ ≡ set results lines (o .refusal) → s′ ≡ o .state → Reached n input results′ (lines + 1) (at + f .size) s′
   unfolding resultsFrom stateAfter
   reached-more f o results′ s′ first done stored next =
@@ -93,7 +91,7 @@ module _ (n : ℕ) (input results : List ℕ) (lines at : ℕ) (s : State) (p : 
       })
 
 -- no line is left
-pub reached-all : (n : ℕ) (input results : List ℕ) (lines at : ℕ) (s : State)
+pub reached-all : (n : ℕ) (input results : List ℕ) (lines at : ℕ) (s : Site)
     → Reached n input results lines at s → length input ≤ at → Told input results lines s
 unfolding resultsFrom stateAfter
 reached-all n input results lines at s p last =

@@ -1,15 +1,13 @@
--- What PanelRights prints for an input (document 01, 'The program PanelRights'), and what becomes of the buffer that it
--- is written into.
+-- What PanelRights prints for an input (document 01, 'The program PanelRights').
 use Prim.Native.Nat.{ℕ, _+_}
 use mathlib.Core.Bool.{Bool, cond}
 use mathlib.Core.List.{List, [], _∷_, _++_}
 use lib.Dec.{ltb}
-use lib.ListN.{length, drop}
+use lib.ListN.{length}
 use Rattle.state.specs.Site.{counts}
-use Rattle.lines.specs.Decimal.{decimal}
+use Rattle.output.specs.Decimal.{decimal}
 use Rattle.lines.specs.Lines.{newline, space}
 use Rattle.sessions.specs.Session.{sessionResults, sessionState}
-use Rattle.transcript.specs.declared.Written.{Written}
 
 -- "the line's number from 1, a space, and 0 or the refusal. .. Each printed line ends with byte 10."
 unfoldable pub resultLine : (k result : ℕ) → List ℕ
@@ -55,19 +53,3 @@ transcriptOf input = cond (isTooLong input) tooLong (sessionText (sessionResults
 -- no transcript has more bytes (Claims, PrintedAtMost): 65,536 lines of at most 9, and a state line of at most 41
 abbrev pub mostPrinted : ℕ
 mostPrinted = 589865
-
--- ---- the buffer
-abbrev pub written : (refusal count : ℕ) → Written
-written refusal count = record { refusal = refusal; length = count }
-
--- the buffer is shorter than the text
-abbrev pub isShort : (text buffer : List ℕ) → Bool
-isShort text buffer = ltb (length buffer) (length text)
-
--- 31, document 02's number for a buffer that is too short, and no byte written; or 0 and how many were
-unfoldable pub writtenOf : (text buffer : List ℕ) → Written
-writtenOf text buffer = cond (isShort text buffer) (written 31 0) (written 0 (length text))
-
--- no byte changed where the buffer is too short; else the text at the front, and the bytes past it as they were
-unfoldable pub bufferOf : (text buffer : List ℕ) → List ℕ
-bufferOf text buffer = cond (isShort text buffer) buffer (text ++ drop (length text) buffer)

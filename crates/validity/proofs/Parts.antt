@@ -22,7 +22,7 @@ use Rattle.access.specs.Answer.{longest, Areas, has, access, unreached, countsW
 use Rattle.access.proofs.Laws.{access-is-count, counts-of-rows}
 use Rattle.state.specs.Below.{eachBelow}
 use Rattle.validity.specs.Parts.{cellReached, objectReached}
-use Rattle.state.specs.declared.State.{State}
+use Rattle.state.specs.Site.{Site}
 use Rattle.soundness.specs.Tests.{isValid}
 use Rattle.soundness.proofs.Laws.{valid-decided}
 use Rattle.state.proofs.Below.{each-at, each-by}
@@ -84,7 +84,7 @@ module _ (ds st im ex : Pairs) where
   reached-by-rows o around defined imported exported counts t d m x e = rw (e, t, d, m, x, counts-of-rows ds st im ex o) refl
 
 -- the test of all objects
-module _ (s : State) where
+module _ (s : Site) where
   abbrev each-reached : ℕ → Bool
   each-reached = objectReached (s .definitions) (s .structure) (s .imports) (s .exports)
 

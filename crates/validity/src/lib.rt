@@ -3,6 +3,7 @@ ghost use mathlib.Core.Path.{_≡_};
 ghost use mathlib.Core.Logic.{_↔_};
 ghost use lib.Dec.{T};
 ghost use Rattle.state.specs.Below.{eachBelow};
+ghost use Rattle.state.specs.Stands.{site};
 ghost use Rattle.rows.specs.Rows.{transpose};
 ghost use Rattle.soundness.specs.Sound.{Valid};
 ghost use Rattle.soundness.specs.Tests.{isValid};
@@ -69,8 +70,8 @@ fn objects_reached<'a>(
 
 // Is the record valid? Any content may be asked about.
 pub fn is_valid(s: State) -> bool
-    ensures equation { λ r. ⌜ r ≡ isValid s ⌝ }
-    ensures meaning { λ r. ⌜ T r ↔ Valid s ⌝ }
+    ensures equation { λ r. ⌜ r ≡ isValid (site s) ⌝ }
+    ensures meaning { λ r. ⌜ T r ↔ Valid (site s) ⌝ }
 {
     objects_reached(&s.definitions, &s.structure, &s.imports, &s.exports)
 }

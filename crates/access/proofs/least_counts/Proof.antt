@@ -23,8 +23,9 @@ first-layer defined move long = tabulate-is (has defined) 32 false defined long 
 
 module _ (start : ℕ → Bool) (move : ℕ → ℕ → Bool) where
   -- one round: what is one step from the layer and has no count is the next layer
-  round : (n : ℕ) (areas near new : Areas) (counts : List ℕ) → n < 31 → areas ≡ layer start move n → counts ≡ countsWithin start move n
+  round : (n : ℕ) (areas near new : Areas) (counts : List ℕ) → n < longest → areas ≡ layer start move n → counts ≡ countsWithin start move n
       → near ≡ nextTo move areas → new ≡ uncounted near counts → new ≡ layer start move (suc n)
+  unfolding longest
   round n areas near new counts h la co ne un = un ∙ ap₂ uncounted (ne ∙ ap (nextTo move) la) co ∙ layer-next start move n (omega arith)
 
   -- and its areas are counted as n + 1
@@ -35,63 +36,54 @@ module _ (start : ℕ → Bool) (move : ℕ → ℕ → Bool) where
       ∙ counts-next start move n ∙ ap (countsWithin start move) (sym (add-one n))
 
   -- with no new area the counts are final
-  final : (n : ℕ) (new : Areas) → n < 31 → new ≡ layer start move (suc n) → anyArea new ≡ false → countsWithin start move n ≡ countsWithin start move longest
+  final : (n : ℕ) (new : Areas) → n < longest → new ≡ layer start move (suc n) → anyArea new ≡ false → countsWithin start move n ≡ countsWithin start move longest
   unfolding longest
   final n new h e none =
-      let rest : n + (31 - n) ≡ 31 = omega arith in
-      sym (counts-stay start move n (31 - n) (no-new start move n (ap anyArea (sym e) ∙ none))) ∙ ap (countsWithin start move) rest
+      let rest : n + (longest - n) ≡ longest = omega arith in
+      sym (counts-stay start move n (longest - n) (no-new start move n (ap anyArea (sym e) ∙ none))) ∙ ap (countsWithin start move) rest
 
 abbrev Inv-loop : tie.InvT-loop
 Inv-loop structure transposed imported exported defined out₀ n₀ areas out n =
     let move = moveBy structure transposed (has imported) (has exported) in
-    (n ≤ 31) × (areas ≡ layer (has defined) move n) × (out ≡ countsWithin (has defined) move n)
+    (n ≤ longest) × (areas ≡ layer (has defined) move n) × (out ≡ countsWithin (has defined) move n)
 
 abbrev μ-loop : tie.MeasureT-loop
-μ-loop structure transposed imported exported defined out₀ n₀ areas out n = 31 - n
-
-counted-requires : tie.Need-counted-requires Inv-loop μ-loop
-counted-requires c κs = tt
+μ-loop structure transposed imported exported defined out₀ n₀ areas out n = longest - n
 
 loop-holds : tie.Need-loop-holds Inv-loop μ-loop
 loop-holds c =
     let first = first-layer (c .before .args .defined) _ (c .before .good .0 .1 .0 .1) in
     (zero-le, first, c .counted .ensures ∙ ap (λ (l : Areas). countedAs 0 l (replicate 32 unreached)) first ∙ counts-start _ _)
 
-next-requires : tie.Need-next-requires Inv-loop μ-loop
-next-requires c κs = tt
-
-fresh-requires : tie.Need-fresh-requires Inv-loop μ-loop
-fresh-requires c κs = tt
-
-any-requires : tie.Need-any-requires Inv-loop μ-loop
-any-requires c κs = tt
-
 -- after `fresh` the new areas are the next layer
 new-layer : (c : tie.After-fresh Inv-loop μ-loop)
     → let a = c .before .before .before .before .before .args in
     c .fresh .result ≡ layer (has (a .defined)) (moveBy (a .structure .now) (a .transposed .now) (has (a .imported)) (has (a .exported))) (suc (c .before .before .before .loop .n))
+unfolding longest
 new-layer c =
     let top = c .before .before .before in
     round _ _ _ _ _ _ _ (omega arith) (top .loop .inv .1) (top .loop .inv .2) (c .before .next .ensures) (c .fresh .ensures)
 
 returns : tie.Need-returns Inv-loop μ-loop
+unfolding longest
 returns c =
     c .before .before .before .before .before .loop .inv .2
     ∙ final _ _ _ _ (omega arith) (new-layer (c .before .before)) (sym (c .before .any .ensures) ∙ not-true _ (c .if1 .taken))
 
 add-counted : tie.Need-add-counted Inv-loop μ-loop
+unfolding longest
 add-counted c = omega arith
 
-counted-requires-2 : tie.Need-counted-requires-2 Inv-loop μ-loop
-counted-requires-2 c κs = tt
-
 add-n : tie.Need-add-n Inv-loop μ-loop
+unfolding longest
 add-n c = omega arith
 
 loop-less : tie.Need-loop-less Inv-loop μ-loop
+unfolding longest
 loop-less c = omega arith
 
 loop-again : tie.Need-loop-again Inv-loop μ-loop
+unfolding longest
 loop-again c =
     let new = new-layer (c .before .before .before) in
     (omega arith, new ∙ ap (layer _ _) (sym (add-one _)), recount _ _ _ _ _ _ new (c .before .before .before .before .before .before .loop .inv .2) (c .counted2 .ensures))
@@ -103,18 +95,5 @@ returns-2 c = c .before .loop .inv .2 ∙ ap (countsWithin _ _) (omega arith)
 pub least-counts-spec : {M : Type 1} → statement M
 least-counts-spec =
     tie.close
-    (tie.spec
-    Inv-loop
-    μ-loop
-    counted-requires
-    loop-holds
-    next-requires
-    fresh-requires
-    any-requires
-    returns
-    add-counted
-    counted-requires-2
-    add-n
-    loop-less
-    loop-again
-    returns-2)
+    (tie.spec Inv-loop μ-loop (λ c κs. tt) loop-holds (λ c κs. tt) (λ c κs. tt) (λ c κs. tt) returns add-counted
+    (λ c κs. tt) add-n loop-less loop-again returns-2)

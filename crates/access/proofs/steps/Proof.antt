@@ -8,27 +8,22 @@ use lib.ListN.{getD}
 use Rattle.state.specs.Cells.{Pairs}
 use Rattle.rows.specs.Rows.{row, transpose}
 use Rattle.state.specs.Site.{area, limit}
-use Rattle.access.specs.Lending.{Lending, lendingOf}
+use Rattle.state.specs.Stands.{site}
+use Rattle.access.specs.Lending.{Lending, lendingOf, lending}
 use Rattle.access.specs.Rounds.{moveBy}
 use Rattle.access.specs.Answer.{longest, Areas, has, answer, unreached, answerNumber, countsWithin, leastCount}
-use Rattle.access.specs.Claims.{Right, NoChainAtAll, Meaning}
+use Rattle.access.specs.Claims.{Right}
 use Rattle.access.specs.declared.Answer.{Answer}
 use Rattle.access.specs.declared.Answer.the-variants.{Steps, NoAccess}
-use Rattle.access.proofs.Laws.{answer-is-right, no-access-is-no-chain, outside}
+use Rattle.access.proofs.Laws.{answer-is-right, outside}
 use Rattle.access.proofs.Laws.{count-is-answer, number-is-count, counts-of-rows}
 use Rattle.access.proofs.steps.Statement.{statement}
 use Rattle.access.proofs.steps.Tie as tie
 
 -- the whole promise, from the answer that the definition gives
 promised : (l : Lending) (a : ℕ) (x : Answer) → answer l a ≡ x
-    → (x ≡ answer l a) × (Meaning l a x × (answerNumber x ≡ leastCount l a))
-promised l a x e = (sym e, (record { right = right; none-at-all = none }, sym (ap answerNumber e) ∙ number-is-count l a))
-  where
-    right : Right l a x
-    right = subst (Right l a) e (answer-is-right l a)
-
-    none : NoChainAtAll l a x
-    none = subst (NoChainAtAll l a) e (no-access-is-no-chain l a)
+    → (x ≡ answer l a) × (Right l a x × (answerNumber x ≡ leastCount l a))
+promised l a x e = (sym e, (subst (Right l a) e (answer-is-right l a), sym (ap answerNumber e) ∙ number-is-count l a))
 
 -- the answer that a number stands for
 no-steps : (l : Lending) (a n : ℕ) → n ≡ answerNumber (answer l a) → n ≡ unreached → answer l a ≡ NoAccess
@@ -53,32 +48,38 @@ count-of : (ds st around im ex : Pairs) (o a : ℕ) (defined imported exported :
 count-of ds st around im ex o a defined imported exported counts h t d m x e =
     rw (e, t, d, m, x, counts-of-rows ds st im ex o) (count-is-answer (lendingOf ds st im ex o) a h)
 
-count-here : (c : tie.After-least-counts) →
-    let a = c .before .before .before .before .before .before .before .before .before .before .args in
-    a .area < limit area → getD (c .least-counts .result) (a .area) 0 ≡ answerNumber (answer (lendingOf (a .definitions .now) (a .structure .now) (a .imports .now) (a .exports .now) (a .object)) (a .area))
+-- ---- the calls, from the last to the first
+abbrev exported-at : tie.After-least-counts → tie.After-row-of3
+exported-at c = c .before .before .before .before
+
+abbrev imported-at : tie.After-row-of3 → tie.After-row-of2
+imported-at c = c .before .before .before .before
+
+abbrev defined-at : tie.After-row-of2 → tie.After-row-of
+defined-at c = c .before .before .before .before
+
+abbrev turned-at : tie.After-row-of → tie.After-transposed
+turned-at c = c .before .before .before .before
+
+abbrev start-of : tie.After-least-counts → tie.Start
+start-of c = turned-at (defined-at (imported-at (exported-at c))) .before .before .before .before
+
+count-here : (c : tie.After-least-counts)
+    → start-of c .args .area < limit area
+    → getD (c .least-counts .result) (start-of c .args .area) 0
+    ≡ answerNumber (answer (lending (site (start-of c .args .t1)) (start-of c .args .object)) (start-of c .args .area))
+unfolding site
 count-here c h =
-    let rows = c .before .before .before .before in
-    count-of _ _ _ _ _ _ _ _ _ _ _ h (rows .before .transposed .ensures) (rows .row-of .ensures) (c .before .before .row-of2 .ensures) (c .before .row-of3 .ensures) (c .least-counts .ensures)
+    let exported = exported-at c in
+    let imported = imported-at exported in
+    let defined = defined-at imported in
+    count-of _ _ _ _ _ _ _ _ _ _ _ h (turned-at defined .transposed .ensures) (defined .row-of .ensures)
+    (imported .row-of2 .ensures) (exported .row-of3 .ensures) (c .least-counts .ensures)
 
 returns : tie.Need-returns
 returns c =
-    let past : limit area ≤ c .before .before .before .before .args .area = omega arith in
+    let past : limit area ≤ c .before .args .area = omega arith in
     promised _ _ _ (outside _ _ past)
-
-transposed-requires : tie.Need-transposed-requires
-transposed-requires c κs = tt
-
-row-of-requires : tie.Need-row-of-requires
-row-of-requires c κs = tt
-
-row-of-requires-2 : tie.Need-row-of-requires-2
-row-of-requires-2 c κs = tt
-
-row-of-requires-3 : tie.Need-row-of-requires-3
-row-of-requires-3 c κs = tt
-
-least-counts-requires : tie.Need-least-counts-requires
-least-counts-requires c κs = tt
 
 array-read-n : tie.Need-array-read-n
 array-read-n c = omega arith
@@ -92,13 +93,5 @@ returns-3 c = promised _ _ _ (some-steps _ _ _ (count-here (c .before) (omega ar
 pub steps-spec : {M : Type 1} → statement M
 steps-spec =
     tie.close
-    (tie.spec
-    returns
-    transposed-requires
-    row-of-requires
-    row-of-requires-2
-    row-of-requires-3
-    least-counts-requires
-    array-read-n
-    returns-2
+    (tie.spec returns (λ c κs. tt) (λ c κs. tt) (λ c κs. tt) (λ c κs. tt) (λ c κs. tt) array-read-n returns-2
     returns-3)

@@ -9,9 +9,6 @@ use Rattle.capi.proofs.answer_of.Tie as tie
 enum-known-reply : tie.Need-enum-known-reply
 enum-known-reply c = search needs
 
-number-of-requires : tie.Need-number-of-requires
-number-of-requires c κs = tt
-
 enum-known-reply-2 : tie.Need-enum-known-reply-2
 enum-known-reply-2 c = search needs
 
@@ -30,11 +27,4 @@ returns-2 c = ap answerOf (sym (c .before .reply2 .given .1))
 pub answer-of-spec : {M : Type 1} → statement M
 answer-of-spec =
     tie.close
-    (tie.spec
-    enum-known-reply
-    number-of-requires
-    enum-known-reply-2
-    cast-result
-    add-result
-    returns
-    returns-2)
+    (tie.spec enum-known-reply (λ c κs. tt) enum-known-reply-2 cast-result add-result returns returns-2)

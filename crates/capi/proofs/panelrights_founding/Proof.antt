@@ -6,12 +6,6 @@ use Rattle.records.specs.Record.{stored}
 use Rattle.capi.proofs.panelrights_founding.Statement.{statement}
 use Rattle.capi.proofs.panelrights_founding.Tie as tie
 
-founding-requires : tie.Need-founding-requires
-founding-requires c κs = tt
-
-write-requires : tie.Need-write-requires
-write-requires c κs = tt
-
 same-length : tie.Need-same-length
 same-length c = search needs
 
@@ -22,4 +16,4 @@ returns c =
 
 pub panelrights-founding-spec : {M : Type 1} → statement M
 panelrights-founding-spec =
-    tie.close (tie.spec founding-requires write-requires same-length returns)
+    tie.close (tie.spec (λ c κs. tt) (λ c κs. tt) same-length returns)

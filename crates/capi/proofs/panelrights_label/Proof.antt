@@ -10,9 +10,6 @@ use Rattle.capi.proofs.panelrights_label.Tie as tie
 abbrev joined : Place → ℕ
 joined p = p .at * 65536 + p .length
 
-label-place-requires : tie.Need-label-place-requires
-label-place-requires c κs = tt
-
 cast-result : tie.Need-cast-result
 cast-result c = search needs
 
@@ -31,4 +28,4 @@ returns c = ap joined (c .before .before .label-place .ensures)
 pub panelrights-label-spec : {M : Type 1} → statement M
 panelrights-label-spec =
     tie.close
-    (tie.spec label-place-requires cast-result mul-result cast-result-2 add-result returns)
+    (tie.spec (λ c κs. tt) cast-result mul-result cast-result-2 add-result returns)

@@ -8,19 +8,18 @@ use mathlib.Core.List.{List}
 use native.Mathlib.Omega.{arith}
 use borrow.Author.Needs.{needs}
 use lib.Dec.{T}
-use Rattle.state.specs.declared.State.{State}
+use Rattle.state.specs.Site.{Site, Verdict}
 use Rattle.state.proofs.Bools.{is-true, test}
 use Rattle.records.specs.Record.{isSized, numberFor, stored}
 use Rattle.site_file.specs.Reading.{readOf}
-use Rattle.site_file.specs.declared.Reading.{Reading}
 use Rattle.interface.specs.Interface.{fileNumber, fileBuffer}
 use Rattle.capi.proofs.panelrights_read_file.Statement.{statement}
 use Rattle.capi.proofs.panelrights_read_file.Tie as tie
 
-abbrev number : Reading → ℕ
+abbrev number : Verdict → ℕ
 number r = r .refusal
 
-abbrev found : Reading → State
+abbrev found : Verdict → Site
 found r = r .state
 
 module _ (file state : List ℕ) {n : ℕ} (e : n ≡ numberFor state) where
@@ -48,14 +47,8 @@ module _ (file state : List ℕ) {n : ℕ} (e : n ≡ numberFor state) where
       go (inr h) = let thirty-one : n ≡ 31 = by-number _ h in absurd (omega arith)
 
 -- the reading's state, written
-kept : (file state : List ℕ) {after : List ℕ} {r : Reading} → after ≡ stored state (r .state) → r ≡ readOf file → after ≡ fileBuffer file state
-kept file state w e = w ∙ ap (λ (q : Reading). stored state (found q)) e
-
-read-requires : tie.Need-read-requires
-read-requires c κs = tt
-
-write-requires : tie.Need-write-requires
-write-requires c κs = tt
+kept : (file state : List ℕ) {after : List ℕ} {r : Verdict} → after ≡ stored state (r .state) → r ≡ readOf file → after ≡ fileBuffer file state
+kept file state w e = w ∙ ap (λ (q : Verdict). stored state (found q)) e
 
 same-length : tie.Need-same-length
 same-length c = search needs
@@ -76,4 +69,4 @@ returns-2 c =
 
 pub panelrights-read-file-spec : {M : Type 1} → statement M
 panelrights-read-file-spec =
-    tie.close (tie.spec read-requires write-requires same-length returns same-length-2 returns-2)
+    tie.close (tie.spec (λ c κs. tt) (λ c κs. tt) same-length returns same-length-2 returns-2)

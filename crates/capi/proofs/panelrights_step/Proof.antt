@@ -7,31 +7,30 @@ use mathlib.Core.List.{List}
 use borrow.Author.Needs.{needs}
 use borrow.Author.Tests.{eq-eqb}
 use lib.ListN.{length}
-use Rattle.state.specs.declared.State.{State}
+use Rattle.state.specs.Site.{Site, Verdict}
 use Rattle.records.specs.Record.{recordSize, bytesOf, stateOf, numberFor, stored}
 use Rattle.records.proofs.Laws.{record-length, stored-sized}
 use Rattle.instructions.specs.Instructions.{Bytes}
 use Rattle.machine.specs.Step.{stepOf}
-use Rattle.machine.specs.declared.Outcome.{Outcome}
 use Rattle.interface.specs.Interface.{stepNumber, stepBuffer}
 use Rattle.interface.proofs.Steps.{number-is, obeyed, refused, accepted}
 use Rattle.capi.proofs.panelrights_step.Statement.{statement}
 use Rattle.capi.proofs.panelrights_step.Tie as tie
 
-abbrev number : Outcome → ℕ
+abbrev number : Verdict → ℕ
 number o = o .refusal
 
-abbrev after : Outcome → State
+abbrev after : Verdict → Site
 after o = o .state
 
 -- a buffer that has the length of a record gets number 0
 numbered : (state : List ℕ) → length state ≡ recordSize → numberFor state ≡ 0
 numbered state h = ap (λ (b : Bool). cond b 0 31) (eq-eqb (length state) recordSize h)
 
-module _ (state : List ℕ) (x : Bytes) {s : State} {o : Outcome} (told : s ≡ stateOf state) (given : o ≡ stepOf s x) where
+module _ (state : List ℕ) (x : Bytes) {s : Site} {o : Verdict} (told : s ≡ stateOf state) (given : o ≡ stepOf s x) where
   -- the machine's outcome for the state of the buffer
   outcome : o ≡ stepOf (stateOf state) x
-  outcome = given ∙ ap (λ (t : State). stepOf t x) told
+  outcome = given ∙ ap (λ (t : Site). stepOf t x) told
 
   same-number : o .refusal ≡ stepNumber state x
   same-number = ap number outcome ∙ sym (number-is state x)
@@ -43,22 +42,13 @@ module _ (state : List ℕ) (x : Bytes) {s : State} {o : Outcome} (told : s ≡ 
   written zero e w =
       let none : stepNumber state x ≡ 0 = sym same-number ∙ zero in
       let long : length state ≡ recordSize = record-length state (obeyed state x none) in
-      (e ∙ numbered state long ∙ sym none, w ∙ stored-sized state (o .state) long ∙ ap (λ (p : Outcome). bytesOf (after p)) outcome ∙ sym (accepted state x none))
-
-state-of-requires : tie.Need-state-of-requires
-state-of-requires c κs = tt
-
-step-requires : tie.Need-step-requires
-step-requires c κs = tt
+      (e ∙ numbered state long ∙ sym none, w ∙ stored-sized state (o .state) long ∙ ap (λ (p : Verdict). bytesOf (after p)) outcome ∙ sym (accepted state x none))
 
 same-length : tie.Need-same-length
 same-length c = search needs
 
 returns : tie.Need-returns
 returns c = unchanged _ _ (c .before .before .state-of .ensures) (c .before .step .ensures) (c .if1 .taken)
-
-write-requires : tie.Need-write-requires
-write-requires c κs = tt
 
 same-length-2 : tie.Need-same-length-2
 same-length-2 c = search needs
@@ -71,11 +61,4 @@ returns-2 c =
 pub panelrights-step-spec : {M : Type 1} → statement M
 panelrights-step-spec =
     tie.close
-    (tie.spec
-    state-of-requires
-    step-requires
-    same-length
-    returns
-    write-requires
-    same-length-2
-    returns-2)
+    (tie.spec (λ c κs. tt) (λ c κs. tt) same-length returns (λ c κs. tt) same-length-2 returns-2)

@@ -2,31 +2,12 @@
 -- Assumes nothing.
 use mathlib.Core.Path.{refl, ap₂}
 use mathlib.Core.List.{_∷_}
+use Rattle.state.specs.Stands.{site}
 use Rattle.counts.proofs.counts.Statement.{statement}
 use Rattle.counts.proofs.counts.Tie as tie
 
-count-requires : tie.Need-count-requires
-count-requires c κs = tt
-
-count-requires-2 : tie.Need-count-requires-2
-count-requires-2 c κs = tt
-
-count-requires-3 : tie.Need-count-requires-3
-count-requires-3 c κs = tt
-
-count-requires-4 : tie.Need-count-requires-4
-count-requires-4 c κs = tt
-
-count-requires-5 : tie.Need-count-requires-5
-count-requires-5 c κs = tt
-
-count-requires-6 : tie.Need-count-requires-6
-count-requires-6 c κs = tt
-
-count-requires-7 : tie.Need-count-requires-7
-count-requires-7 c κs = tt
-
 returns : tie.Need-returns
+unfolding site
 returns c =
     let exports = c in
     let imports = exports .before .before .before .before in
@@ -40,12 +21,4 @@ returns c =
 pub counts-spec : {M : Type 1} → statement M
 counts-spec =
     tie.close
-    (tie.spec
-    count-requires
-    count-requires-2
-    count-requires-3
-    count-requires-4
-    count-requires-5
-    count-requires-6
-    count-requires-7
-    returns)
+    (tie.spec (λ c κs. tt) (λ c κs. tt) (λ c κs. tt) (λ c κs. tt) (λ c κs. tt) (λ c κs. tt) (λ c κs. tt) returns)

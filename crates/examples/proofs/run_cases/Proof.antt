@@ -11,9 +11,6 @@ Inv-loop cases s₀ i₀ s i = i ≤ 81
 abbrev μ-loop : tie.MeasureT-loop
 μ-loop cases s₀ i₀ s i = 81 - i
 
-founding-requires : tie.Need-founding-requires Inv-loop μ-loop
-founding-requires c κs = tt
-
 loop-holds : tie.Need-loop-holds Inv-loop μ-loop
 loop-holds c = omega arith
 
@@ -22,9 +19,6 @@ mul-after c = omega arith
 
 array-read-after : tie.Need-array-read-after Inv-loop μ-loop
 array-read-after c = omega arith
-
-after-requires : tie.Need-after-requires Inv-loop μ-loop
-after-requires c κs = tt
 
 add-i : tie.Need-add-i Inv-loop μ-loop
 add-i c = omega arith
@@ -41,15 +35,5 @@ returns c = tt
 pub run-cases-spec : {M : Type 1} → statement M
 run-cases-spec =
     tie.close
-    (tie.spec
-    Inv-loop
-    μ-loop
-    founding-requires
-    loop-holds
-    mul-after
-    array-read-after
-    after-requires
-    add-i
-    loop-less
-    loop-again
-    returns)
+    (tie.spec Inv-loop μ-loop (λ c κs. tt) loop-holds mul-after array-read-after (λ c κs. tt) add-i loop-less
+    loop-again returns)

@@ -39,12 +39,6 @@ cast-if1 c = omega arith
 array-read-if1 : tie.Need-array-read-if1 Inv-loop μ-loop
 array-read-if1 c = omega arith
 
-row-of-requires : tie.Need-row-of-requires Inv-loop μ-loop
-row-of-requires c κs = tt
-
-is-single-requires : tie.Need-is-single-requires Inv-loop μ-loop
-is-single-requires c κs = tt
-
 returns : tie.Need-returns Inv-loop μ-loop
 returns c =
     let at = c .before .before .before .before in
@@ -76,16 +70,5 @@ returns-2 c =
 pub all-defined-spec : {M : Type 1} → statement M
 all-defined-spec =
     tie.close
-    (tie.spec
-    Inv-loop
-    μ-loop
-    loop-holds
-    cast-if1
-    array-read-if1
-    row-of-requires
-    is-single-requires
-    returns
-    add-i
-    loop-less
-    loop-again
-    returns-2)
+    (tie.spec Inv-loop μ-loop loop-holds cast-if1 array-read-if1 (λ c κs. tt) (λ c κs. tt) returns add-i loop-less
+    loop-again returns-2)

@@ -40,9 +40,6 @@ cast-if1 c = omega arith
 array-read-if1 : tie.Need-array-read-if1 Inv-loop μ-loop
 array-read-if1 c = omega arith
 
-in-row-requires : tie.Need-in-row-requires Inv-loop μ-loop
-in-row-requires c κs = tt
-
 returns : tie.Need-returns Inv-loop μ-loop
 returns c =
     let at = c .before .before .before in
@@ -68,15 +65,5 @@ returns-2 c =
 pub all-own-spec : {M : Type 1} → statement M
 all-own-spec =
     tie.close
-    (tie.spec
-    Inv-loop
-    μ-loop
-    loop-holds
-    cast-if1
-    array-read-if1
-    in-row-requires
-    returns
-    add-i
-    loop-less
-    loop-again
+    (tie.spec Inv-loop μ-loop loop-holds cast-if1 array-read-if1 (λ c κs. tt) returns add-i loop-less loop-again
     returns-2)

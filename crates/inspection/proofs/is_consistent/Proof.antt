@@ -1,33 +1,80 @@
--- `inspection::is_consistent` meets its contract: a record has a row for each number that may be the first of a pair.
+-- `inspection::is_consistent` meets its contract: its calls are the test's parts. A record has a row for each number
+-- that may be the first of a pair.
 -- Assumes nothing.
 use Prim.Native.Nat.{ℕ, _*_}
-use mathlib.Core.Path.{sym, ap, _∙_}
-use borrow.Author.Needs.{needs}
-use Rattle.state.specs.Site.{user, area, object, owner, definition, structure, import, export, Shaped}
-use Rattle.state.specs.declared.State.{State}
+use mathlib.Core.Path.{_≡_, sym, ap, _∙_}
+use mathlib.Core.Bool.{_&&_}
+use lib.ListN.{length}
+use Rattle.state.specs.Site.{area, Relation, owner, definition, structure, import, export, firstKind, members, cells, Shaped}
+use Rattle.state.specs.Stands.{site}
 use Rattle.state.proofs.Typed.{shaped-by-type}
-use Rattle.inspection.specs.Parts.{RowsFit}
 use Rattle.inspection.proofs.is_consistent.Statement.{statement}
 use Rattle.inspection.proofs.is_consistent.Tie as tie
 
-rows-fit : (s : State) → Shaped s → RowsFit (s .users) (s .areas) (s .objects) (s .owners) (s .definitions) (s .structure) (s .imports) (s .exports)
-rows-fit s h =
-    record {
-      owners = h .relations owner ∙ sym (ap (λ (n : ℕ). n * 32) (h .sets user));
-      definitions = h .relations definition ∙ sym (ap (λ (n : ℕ). n * 32) (h .sets object));
-      structure = h .relations structure ∙ sym (ap (λ (n : ℕ). n * 32) (h .sets area));
-      imports = h .relations import ∙ sym (ap (λ (n : ℕ). n * 32) (h .sets object));
-      exports = h .relations export ∙ sym (ap (λ (n : ℕ). n * 32) (h .sets object));
-    }
+-- ---- the calls, from the last to the first
+abbrev fourth : tie.After-all-named-arg18 → tie.After-all-named4
+fourth c = c .before .before .before .before .before
 
-are-consistent-requires : tie.Need-are-consistent-requires
-are-consistent-requires c κs =
-    let lent = c .before .before .before .before .before .before .before .before in
-    let start = lent .before .before .before .before .before .before .before .before in
-    rows-fit (start .args .t1) (shaped-by-type (start .args .t1) _ (start .good .0 .1 .1))
+abbrev third : tie.After-all-named-arg14 → tie.After-all-named3
+third c = c .before .before .before .before .before
+
+abbrev second : tie.After-inner2 → tie.After-all-named2
+second c = c .before .before .before .before
+
+abbrev first : tie.After-all-named-arg8 → tie.After-all-named
+first c = c .before .before .before .before .before
+
+abbrev start-of : tie.After-all-named-arg4 → tie.Start
+start-of c = c .before .before .before .before .before .before .before
+
+shaped : (c : tie.Start) → Shaped (site (c .args .t1))
+shaped c = shaped-by-type (c .args .t1) _ (c .good .0 .1 .1)
+
+-- a row for each number
+fits : (c : tie.After-all-named-arg4) (r : Relation)
+    → let s = site (start-of c .args .t1) in length (cells s r) ≡ length (members s (firstKind r)) * 32
+fits c r =
+    let sizes = shaped (start-of c) in
+    sizes .relations r ∙ sym (ap (λ (n : ℕ). n * 32) (sizes .sets (firstKind r)))
+
+owners-fit : tie.Need-all-named-requires
+unfolding site
+owners-fit c κs = fits c owner
+
+definitions-fit : tie.Need-all-named-requires-2
+unfolding site
+definitions-fit c κs = fits (first c .before) definition
+
+inner-sized : tie.Need-slice-aggregate-all-named
+unfolding site
+inner-sized c = sym (shaped (start-of (first (second c .before) .before)) .sets area)
+
+structure-fits : tie.Need-all-named-requires-3
+unfolding site
+structure-fits c κs = fits (first (second c .before) .before) structure
+
+imports-fit : tie.Need-all-named-requires-4
+unfolding site
+imports-fit c κs = fits (first (second (third c .before) .before) .before) import
+
+exports-fit : tie.Need-all-named-requires-5
+unfolding site
+exports-fit c κs = fits (first (second (third (fourth c .before) .before) .before) .before) export
 
 returns : tie.Need-returns
-returns c = search needs
+unfolding site
+returns c =
+    let to-imports = fourth (c .before) in
+    let to-structure = third (to-imports .before) in
+    let to-definitions = second (to-structure .before) in
+    let to-owners = first (to-definitions .before) in
+    let owners = to-owners .all-named .ensures in
+    let definitions = to-definitions .all-named2 .ensures in
+    let structure = to-structure .all-named3 .ensures in
+    let imports = to-imports .all-named4 .ensures in
+    let exports = c .all-named5 .ensures in
+    λ i. owners i && definitions i && structure i && imports i && exports i
 
 pub is-consistent-spec : {M : Type 1} → statement M
-is-consistent-spec = tie.close (tie.spec are-consistent-requires returns)
+is-consistent-spec =
+    tie.close (tie.spec owners-fit definitions-fit inner-sized structure-fits imports-fit exports-fit returns)

@@ -5,8 +5,8 @@ use mathlib.Core.Logic.{_↔_}
 use mathlib.Core.Bool.{Bool, true, false}
 use borrow.Author.Tests.{not-true, not-false}
 use lib.Dec.{T}
-use Rattle.state.specs.Site.{Shaped}
-use Rattle.state.specs.declared.State.{State}
+use Rattle.state.specs.Site.{Site, Shaped}
+use Rattle.state.specs.Stands.{site}
 use Rattle.state.proofs.Typed.{shaped-by-type}
 use Rattle.soundness.specs.Sound.{Sound}
 use Rattle.soundness.specs.Tests.{isWellFormed, isValid, isSound}
@@ -14,29 +14,23 @@ use Rattle.soundness.proofs.Laws.{sound-decided}
 use Rattle.inspection.proofs.is_sound.Statement.{statement}
 use Rattle.inspection.proofs.is_sound.Tie as tie
 
-ill-formed : (s : State) → isWellFormed s ≡ false → false ≡ isSound s
+ill-formed : (s : Site) → isWellFormed s ≡ false → false ≡ isSound s
 unfolding isSound
 ill-formed s e = rw e refl
 
-by-validity : (s : State) → isWellFormed s ≡ true → isValid s ≡ isSound s
+by-validity : (s : Site) → isWellFormed s ≡ true → isValid s ≡ isSound s
 unfolding isSound
 by-validity s e = rw e refl
 
-shaped : (c : tie.Start) → Shaped (c .args .s)
+shaped : (c : tie.Start) → Shaped (site (c .args .s))
 shaped c = shaped-by-type (c .args .s) _ (c .good .0 .1 .1)
 
 -- the equation, and with it the meaning
-deciding : (s : State) → Shaped s → (b : Bool) → b ≡ isSound s → (b ≡ isSound s) × (T b ↔ Sound s)
+deciding : (s : Site) → Shaped s → (b : Bool) → b ≡ isSound s → (b ≡ isSound s) × (T b ↔ Sound s)
 deciding s h b e = (e, subst (λ (v : Bool). T v ↔ Sound s) (sym e) (sound-decided s h))
-
-is-well-formed-requires : tie.Need-is-well-formed-requires
-is-well-formed-requires c κs = tt
 
 returns : tie.Need-returns
 returns c = deciding _ (shaped (c .before .before)) false (ill-formed _ (sym (c .before .is-well-formed .ensures) ∙ not-true _ (c .if1 .taken)))
-
-is-valid-requires : tie.Need-is-valid-requires
-is-valid-requires c κs = tt
 
 returns-2 : tie.Need-returns-2
 returns-2 c =
@@ -44,4 +38,4 @@ returns-2 c =
     (c .is-valid .ensures .0 ∙ by-validity _ (sym (c .before .before .is-well-formed .ensures) ∙ not-false _ (c .before .if1 .left)))
 
 pub is-sound-spec : {M : Type 1} → statement M
-is-sound-spec = tie.close (tie.spec is-well-formed-requires returns is-valid-requires returns-2)
+is-sound-spec = tie.close (tie.spec (λ c κs. tt) returns (λ c κs. tt) returns-2)

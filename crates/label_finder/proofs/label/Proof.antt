@@ -26,17 +26,11 @@ placed file a front p e b at =
     let inside : min (p .at) (length file) ≡ textAt file a = omega (arith, label-inside file a, starts) in
     (b ∙ ap₂ (λ (n m : ℕ). take n (drop m file)) (ap size e) starts, at ∙ ap (behind front) inside)
 
-label-place-requires : tie.Need-label-place-requires
-label-place-requires c κs = tt
-
 cast-part-from : tie.Need-cast-part-from
 cast-part-from c = omega arith
 
 cast-part-from-2 : tie.Need-cast-part-from-2
 cast-part-from-2 c = omega arith
-
-part-from-requires : tie.Need-part-from-requires
-part-from-requires c κs = tt
 
 returns : tie.Need-returns
 returns c = placed _ _ _ _ (c .before .before .before .label-place .ensures) (c .part-from .ensures .0) (c .part-from .ensures .1)
@@ -44,4 +38,4 @@ returns c = placed _ _ _ _ (c .before .before .before .label-place .ensures) (c 
 pub label-spec : {M : Type 1} → statement M
 label-spec =
     tie.close
-    (tie.spec label-place-requires cast-part-from cast-part-from-2 part-from-requires returns)
+    (tie.spec (λ c κs. tt) cast-part-from cast-part-from-2 (λ c κs. tt) returns)

@@ -9,7 +9,8 @@ use borrow.Author.Tests.{lt-ltb, le-ltb, not-true, not-false}
 use denote.Ref.{now}
 use lib.Dec.{eqb, ltb}
 use Rattle.label_tables.specs.Labels.{labelCount, labelLength, labelIndex}
-use Rattle.site_format.specs.Format.{AreBytes, labels, offsetIn, part}
+use Rattle.site_format.specs.Format.{AreBytes, labels, Layout, offsetIn, part}
+use Rattle.site_format.proofs.Tables.{field-by}
 use Rattle.site_file.specs.Reading.{fileRefusal}
 use Rattle.label_finder.specs.Finder.{hasLabel, textAt, textLength, placeOf}
 use Rattle.state.proofs.Bools.{holds, fails}
@@ -50,25 +51,22 @@ labelled c =
     let asked = c .before .before .before .before in
     entry _ _ true (asked .is-accepted .ensures) (c .before .before .before .if1 .left) (c .before .before .labels .ensures) (c .before .index-of .ensures) (lt-ltb _ _ (c .if2 .left))
 
-text-at : (c : tie.After-field-at) → let start = c .before .before .before .before .before .before .before in
-    c .field-at .result + (c .before .before .index-of .result * 32 + 2) ≡ textAt (now (start .args .file)) (start .args .area)
-text-at c = entry-at _ _ (labelled (c .before)) (c .before .before .before .labels .ensures) (c .before .before .index-of .ensures) (c .field-at .ensures)
+text-at : (c : tie.After-field-at) →
+    let found = c .before .before in
+    let start = found .before .before .before .before .before .before in
+    c .field-at .result + (found .before .index-of .result * 32 + 2) ≡ textAt (now (start .args .file)) (start .args .area)
+text-at c =
+    let found = c .before .before in
+    let file = now (found .before .before .before .before .before .before .args .file) in
+    entry-at _ _ (labelled found) (found .before .before .labels .ensures) (found .before .index-of .ensures)
+    (field-by file (λ (l : Layout). l .offsetAt) (c .field-at .ensures) (c .before .layout-of .ensures))
 
 -- a slice of bytes has bytes
 are-bytes : (c : tie.After-shared-slice-known) → AreBytes (now (c .before .args .file))
 are-bytes c i = omega (arith, c .shared-slice-known .given i)
 
-is-accepted-requires : tie.Need-is-accepted-requires
-is-accepted-requires c κs = tt
-
 returns : tie.Need-returns
 returns c = nowhere _ (c .before .before .before .args .area) (refused _ _ (c .before .is-accepted .ensures) (c .if1 .taken))
-
-labels-requires : tie.Need-labels-requires
-labels-requires c κs = tt
-
-index-of-requires : tie.Need-index-of-requires
-index-of-requires c κs = tt
 
 returns-2 : tie.Need-returns-2
 returns-2 c =
@@ -76,11 +74,8 @@ returns-2 c =
     nowhere _ (asked .before .before .args .area)
     (entry _ _ false (asked .is-accepted .ensures) (c .before .before .before .if1 .left) (c .before .before .labels .ensures) (c .before .index-of .ensures) (le-ltb _ _ (c .if2 .taken)))
 
-field-at-requires : tie.Need-field-at-requires
-field-at-requires c κs = tt
-
-cast-at : tie.Need-cast-at
-cast-at c = omega arith
+cast-from : tie.Need-cast-from
+cast-from c = omega arith
 
 mul-at : tie.Need-mul-at
 mul-at c = omega arith
@@ -91,41 +86,42 @@ add-at c = omega arith
 add-at-2 : tie.Need-add-at-2
 add-at-2 c = omega arith
 
-cast-t11 : tie.Need-cast-t11
-cast-t11 c =
-    let known = c .before .before .before .before .before .before in
+cast-at : tie.Need-cast-at
+cast-at c =
+    let known = c .before .before .before .before .before .before .before in
     omega (arith, text-at c, label-small (now (known .before .args .file)) (are-bytes known) (known .before .args .area))
 
-mul-t12 : tie.Need-mul-t12
-mul-t12 c = omega arith
+mul-length : tie.Need-mul-length
+mul-length c = omega arith
 
-add-t10 : tie.Need-add-t10
-add-t10 c = omega arith
+add-length : tie.Need-add-length
+add-length c = omega arith
 
-shared-slice-read-t14 : tie.Need-shared-slice-read-t14
-shared-slice-read-t14 c = omega arith
+shared-slice-read-length : tie.Need-shared-slice-read-length
+shared-slice-read-length c = omega arith
 
 returns-3 : tie.Need-returns-3
 returns-3 c =
-    let found = c .before .before in
+    let found = c .before .before .before in
     placed _ _ _ _ (text-at (c .before)) (entry-long _ _ (labelled found) (found .before .before .labels .ensures) (found .before .index-of .ensures))
 
 pub label-place-spec : {M : Type 1} → statement M
 label-place-spec =
     tie.close
     (tie.spec
-    is-accepted-requires
+    (λ c κs. tt)
     returns
-    labels-requires
-    index-of-requires
+    (λ c κs. tt)
+    (λ c κs. tt)
     returns-2
-    field-at-requires
-    cast-at
+    (λ c κs. tt)
+    (λ c κs. tt)
+    cast-from
     mul-at
     add-at
     add-at-2
-    cast-t11
-    mul-t12
-    add-t10
-    shared-slice-read-t14
+    cast-at
+    mul-length
+    add-length
+    shared-slice-read-length
     returns-3)

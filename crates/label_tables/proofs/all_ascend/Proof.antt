@@ -1,21 +1,13 @@
 -- `label_tables::all_ascend` meets its contract. The loop's invariant: `ascends` says whether the first k areas are each below the next.
 -- Assumes nothing.
-use Prim.Native.Nat.{ℕ, _+_, _-_, _*_, _≤_}
+use Prim.Native.Nat.{_-_, _≤_}
 use mathlib.Core.Path.{refl, _≡_, sym}
-use mathlib.Core.List.{List}
 use native.Mathlib.Omega.{arith}
-use denote.Ref.{now}
-use lib.Dec.{ltb}
-use lib.ListN.{getD}
 use Rattle.state.specs.Below.{eachBelow}
 use Rattle.state.proofs.Below.{each-none, each-step, each-end}
 use Rattle.label_tables.specs.Labels.{labelAscends, labelsAscend}
 use Rattle.label_tables.proofs.all_ascend.Statement.{statement}
 use Rattle.label_tables.proofs.all_ascend.Tie as tie
-
--- where the next entry's area stands
-next-area : (t : List ℕ) (k : ℕ) → ltb (getD t (k * 32) 0) (getD t (k * 32 + 32) 0) ≡ labelAscends t k
-next-area t k = let next : k * 32 + 32 ≡ (k + 1) * 32 = omega arith in rw next refl
 
 abbrev Inv-loop : tie.InvT-loop
 Inv-loop table count k₀ ascends₀ k ascends = (k ≤ count - 1) × (ascends ≡ eachBelow k (labelAscends table))
@@ -35,11 +27,11 @@ mul-ascends c = omega arith
 shared-slice-read-ascends : tie.Need-shared-slice-read-ascends Inv-loop μ-loop
 shared-slice-read-ascends c = omega arith
 
-mul-ascends-2 : tie.Need-mul-ascends-2 Inv-loop μ-loop
-mul-ascends-2 c = omega arith
-
 add-ascends : tie.Need-add-ascends Inv-loop μ-loop
 add-ascends c = omega arith
+
+mul-ascends-2 : tie.Need-mul-ascends-2 Inv-loop μ-loop
+mul-ascends-2 c = omega arith
 
 shared-slice-read-ascends-2 : tie.Need-shared-slice-read-ascends-2 Inv-loop μ-loop
 shared-slice-read-ascends-2 c = omega arith
@@ -52,8 +44,7 @@ loop-less c = omega arith
 
 loop-again : tie.Need-loop-again Inv-loop μ-loop
 loop-again c =
-    let at = c .before .before .before in
-    (omega arith, each-step _ _ _ _ (at .loop .inv .1) (next-area (now (at .before .args .table)) (at .loop .k)))
+    (omega arith, each-step _ _ _ _ (c .before .before .before .loop .inv .1) refl)
 
 returns : tie.Need-returns Inv-loop μ-loop
 unfolding labelsAscend
@@ -69,8 +60,8 @@ all-ascend-spec =
     add-loop
     mul-ascends
     shared-slice-read-ascends
-    mul-ascends-2
     add-ascends
+    mul-ascends-2
     shared-slice-read-ascends-2
     add-k
     loop-less

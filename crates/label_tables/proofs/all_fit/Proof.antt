@@ -21,9 +21,6 @@ abbrev μ-loop : tie.MeasureT-loop
 loop-holds : tie.Need-loop-holds Inv-loop μ-loop
 loop-holds c = (omega arith, each-none _)
 
-label-fits-requires : tie.Need-label-fits-requires Inv-loop μ-loop
-label-fits-requires c κs = omega arith
-
 returns : tie.Need-returns Inv-loop μ-loop
 unfolding labelsFit
 returns c =
@@ -53,7 +50,7 @@ all-fit-spec =
     Inv-loop
     μ-loop
     loop-holds
-    label-fits-requires
+    (λ c κs. omega arith)
     returns
     add-k
     loop-less

@@ -26,9 +26,6 @@ mul-is-member c = omega arith
 shared-slice-read-is-member : tie.Need-shared-slice-read-is-member Inv-loop μ-loop
 shared-slice-read-is-member c = omega arith
 
-is-member-requires : tie.Need-is-member-requires Inv-loop μ-loop
-is-member-requires c κs = tt
-
 returns : tie.Need-returns Inv-loop μ-loop
 unfolding labelsListed
 returns c =
@@ -59,7 +56,7 @@ all-listed-spec =
     loop-holds
     mul-is-member
     shared-slice-read-is-member
-    is-member-requires
+    (λ c κs. tt)
     returns
     add-k
     loop-less

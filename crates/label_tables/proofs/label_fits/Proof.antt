@@ -26,9 +26,6 @@ mul-text-fits c = omega arith
 add-text-fits : tie.Need-add-text-fits
 add-text-fits c = omega arith
 
-text-fits-requires : tie.Need-text-fits-requires
-text-fits-requires c κs = omega arith
-
 returns : tie.Need-returns
 returns c = rw (c .text-fits .ensures) refl
 
@@ -43,5 +40,5 @@ label-fits-spec =
     shared-slice-read-result
     mul-text-fits
     add-text-fits
-    text-fits-requires
+    (λ c κs. omega arith)
     returns)

@@ -6,9 +6,6 @@ use native.Mathlib.Omega.{arith}
 use Rattle.lines.proofs.extended.Statement.{statement}
 use Rattle.lines.proofs.extended.Tie as tie
 
-with-digit-requires : tie.Need-with-digit-requires
-with-digit-requires c κs = omega arith
-
 returns : tie.Need-returns
 returns c = rw (eq-eqb _ 0 (c .if1 .taken)) refl
 
@@ -16,4 +13,4 @@ returns-2 : tie.Need-returns-2
 returns-2 c = rw (ne-eqb _ 0 (c .before .if1 .left)) (c .with-digit .ensures)
 
 pub extended-spec : {M : Type 1} → statement M
-extended-spec = tie.close (tie.spec with-digit-requires returns returns-2)
+extended-spec = tie.close (tie.spec (λ c κs. omega arith) returns returns-2)

@@ -18,9 +18,6 @@ promised : (bytes : List ℕ) (r : First) → r ≡ firstLineOf bytes
     → (r ≡ firstLineOf bytes) × NumberOfFirst bytes (lineNumber (r .line))
 promised bytes r e = (e, subst (λ (f : First). NumberOfFirst bytes (lineNumber (f .line))) (sym e) (first-line-number bytes))
 
-index-requires : tie.Need-index-requires
-index-requires c κs = tt
-
 sub-read-line : tie.Need-sub-read-line
 sub-read-line c = omega arith
 
@@ -29,9 +26,6 @@ part-read-line-start c = omega arith
 
 part-read-line-end : tie.Need-part-read-line-end
 part-read-line-end c = omega arith
-
-read-line-requires : tie.Need-read-line-requires
-read-line-requires c κs = tt
 
 add-t11 : tie.Need-add-t11
 add-t11 c = omega arith
@@ -50,11 +44,11 @@ pub first-line-spec : {M : Type 1} → statement M
 first-line-spec =
     tie.close
     (tie.spec
-    index-requires
+    (λ c κs. tt)
     sub-read-line
     part-read-line-start
     part-read-line-end
-    read-line-requires
+    (λ c κs. tt)
     add-t11
     returns
     returns-2)

@@ -20,17 +20,11 @@ returns c = sym (number-empty _ (c .if1 .taken))
 shared-slice-read-with-digit : tie.Need-shared-slice-read-with-digit Inv-loop μ-loop
 shared-slice-read-with-digit c = omega arith
 
-with-digit-requires : tie.Need-with-digit-requires Inv-loop μ-loop
-with-digit-requires c κs = omega arith
-
 loop-holds : tie.Need-loop-holds Inv-loop μ-loop
 loop-holds c = (omega arith, omega arith, read-first _ _ (omega arith) (c .with-digit .ensures))
 
 shared-slice-read-extended : tie.Need-shared-slice-read-extended Inv-loop μ-loop
 shared-slice-read-extended c = omega arith
-
-extended-requires : tie.Need-extended-requires Inv-loop μ-loop
-extended-requires c κs = omega arith
 
 add-i : tie.Need-add-i Inv-loop μ-loop
 add-i c = omega arith
@@ -54,10 +48,10 @@ number-spec =
     μ-loop
     returns
     shared-slice-read-with-digit
-    with-digit-requires
+    (λ c κs. omega arith)
     loop-holds
     shared-slice-read-extended
-    extended-requires
+    (λ c κs. omega arith)
     add-i
     loop-less
     loop-again

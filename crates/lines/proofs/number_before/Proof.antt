@@ -14,11 +14,8 @@ part-number-start c = omega arith
 part-number-end : tie.Need-part-number-end
 part-number-end c = omega arith
 
-number-requires : tie.Need-number-requires
-number-requires c κs = tt
-
 returns : tie.Need-returns
 returns c = rw (sub-zero (c .before .before .before .args .i)) at (c .number .ensures)
 
 pub number-before-spec : {M : Type 1} → statement M
-number-before-spec = tie.close (tie.spec sub-number part-number-start part-number-end number-requires returns)
+number-before-spec = tie.close (tie.spec sub-number part-number-start part-number-end (λ c κs. tt) returns)

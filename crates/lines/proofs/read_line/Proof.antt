@@ -6,7 +6,7 @@ use mathlib.Core.List.{_∷_}
 use native.Mathlib.Omega.{arith}
 use denote.Ref.{now}
 use lib.ListN.{take}
-use Rattle.lines.specs.Decimal.{wordNumber}
+use Rattle.lines.specs.Words.{wordNumber}
 use Rattle.lines.specs.Lines.{lineOf}
 use Rattle.lines.proofs.Texts.{numbersOf, text-whole, text-first, text-four}
 use Rattle.lines.proofs.read_line.Statement.{statement}
@@ -21,52 +21,19 @@ second : (c : tie.After-behind2) (n : ℕ) → let text = now (c .before .before
     n ≡ wordNumber (take (c .before .before .index2 .result) text) → numbersOf text ≡ n ∷ numbersOf (now (c .behind2 .result))
 second c n = text-first _ _ _ n (c .before .before .index2 .ensures) (c .before .if2 .left) (c .behind2 .ensures)
 
-index-requires : tie.Need-index-requires
-index-requires c κs = tt
-
 returns : tie.Need-returns
 unfolding lineOf
 returns c = rw (text-whole _ _ (c .before .index .ensures) (c .if1 .taken)) refl
 
-behind-requires : tie.Need-behind-requires
-behind-requires c κs = omega arith
-
-index-requires-2 : tie.Need-index-requires-2
-index-requires-2 c κs = tt
-
 returns-2 : tie.Need-returns-2
 unfolding lineOf
 returns-2 c = rw (first (c .before .before) _ refl, text-whole _ _ (c .before .index2 .ensures) (c .if2 .taken)) refl
-
-behind-requires-2 : tie.Need-behind-requires-2
-behind-requires-2 c κs = omega arith
-
-index-requires-3 : tie.Need-index-requires-3
-index-requires-3 c κs = tt
 
 returns-3 : tie.Need-returns-3
 unfolding lineOf
 returns-3 c =
     let two = c .before .before in
     rw (first (two .before .before .before) _ refl, second two _ refl, text-whole _ _ (c .before .index3 .ensures) (c .if3 .taken)) refl
-
-number-before-requires : tie.Need-number-before-requires
-number-before-requires c κs = omega arith
-
-number-before-requires-2 : tie.Need-number-before-requires-2
-number-before-requires-2 c κs = omega arith
-
-number-before-requires-3 : tie.Need-number-before-requires-3
-number-before-requires-3 c κs = omega arith
-
-behind-requires-3 : tie.Need-behind-requires-3
-behind-requires-3 c κs = omega arith
-
-number-requires : tie.Need-number-requires
-number-requires c κs = tt
-
-line-by-requires : tie.Need-line-by-requires
-line-by-requires c κs = tt
 
 returns-4 : tie.Need-returns-4
 returns-4 c =
@@ -84,18 +51,18 @@ pub read-line-spec : {M : Type 1} → statement M
 read-line-spec =
     tie.close
     (tie.spec
-    index-requires
+    (λ c κs. tt)
     returns
-    behind-requires
-    index-requires-2
+    (λ c κs. omega arith)
+    (λ c κs. tt)
     returns-2
-    behind-requires-2
-    index-requires-3
+    (λ c κs. omega arith)
+    (λ c κs. tt)
     returns-3
-    number-before-requires
-    number-before-requires-2
-    number-before-requires-3
-    behind-requires-3
-    number-requires
-    line-by-requires
+    (λ c κs. omega arith)
+    (λ c κs. omega arith)
+    (λ c κs. omega arith)
+    (λ c κs. omega arith)
+    (λ c κs. tt)
+    (λ c κs. tt)
     returns-4)

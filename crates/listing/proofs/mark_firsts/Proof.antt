@@ -31,9 +31,6 @@ loop-holds c = (omega arith, filled-none _ _ _ _ refl)
 cast-in-row : tie.Need-cast-in-row Inv-loop μ-loop
 cast-in-row c = let b : length (now (c .before .before .before .before .args .out)) ≤ 256 = c .before .before .before .before .pre in omega arith
 
-in-row-requires : tie.Need-in-row-requires Inv-loop μ-loop
-in-row-requires c κs = tt
-
 slice-write-out : tie.Need-slice-write-out Inv-loop μ-loop
 slice-write-out c = rw (c .before .before .loop .inv .1 .long) (omega arith)
 
@@ -55,15 +52,5 @@ returns c = all-marked _ _ _ _ (omega arith) (c .before .loop .inv .1)
 pub mark-firsts-spec : {M : Type 1} → statement M
 mark-firsts-spec =
     tie.close
-    (tie.spec
-    Inv-loop
-    μ-loop
-    loop-holds
-    cast-in-row
-    in-row-requires
-    slice-write-out
-    add-i
-    loop-less
-    loop-again
-    same-length
-    returns)
+    (tie.spec Inv-loop μ-loop loop-holds cast-in-row (λ c κs. tt) slice-write-out add-i loop-less loop-again
+    same-length returns)

@@ -26,9 +26,6 @@ abbrev μ-loop : tie.MeasureT-loop
 loop-holds : tie.Need-loop-holds Inv-loop μ-loop
 loop-holds c = (omega arith, filled-none _ _ _ _ refl)
 
-in-column-requires : tie.Need-in-column-requires Inv-loop μ-loop
-in-column-requires c κs = tt
-
 cast-out : tie.Need-cast-out Inv-loop μ-loop
 cast-out c = omega arith
 
@@ -50,14 +47,4 @@ returns c = all-marked _ _ _ (omega arith) (c .before .loop .inv .1)
 pub seconds-spec : {M : Type 1} → statement M
 seconds-spec =
     tie.close
-    (tie.spec
-    Inv-loop
-    μ-loop
-    loop-holds
-    in-column-requires
-    cast-out
-    array-write-out
-    add-j
-    loop-less
-    loop-again
-    returns)
+    (tie.spec Inv-loop μ-loop loop-holds (λ c κs. tt) cast-out array-write-out add-j loop-less loop-again returns)

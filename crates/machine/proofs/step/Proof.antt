@@ -9,12 +9,17 @@ use borrow.Author.Needs.{needs}
 use denote.Enum.Declared.{tagOf}
 use types.Run.{OneOf}
 use lib.Dec.{eqb}
-use Rattle.state.specs.Site.{Shaped}
+use Rattle.state.specs.Site.{Shaped, verdict}
+use Rattle.state.specs.Stands.{site}
 use Rattle.state.proofs.Typed.{shaped-by-type}
 use Rattle.soundness.specs.Tests.{isSound}
-use Rattle.instructions.specs.Instructions.{Bytes, fourBytes}
+use Rattle.state.specs.Checks.{firstMet}
+use Rattle.readings.specs.Readings.{seenOf}
+use Rattle.instructions.specs.Instructions.{Bytes, fourBytes, rule}
+use Rattle.instructions.specs.declared.Rule.{Rule}
+use Rattle.refusals.specs.Refusals.{earlyChecks}
+use Rattle.refusals.specs.Parts.{resultChecks}
 use Rattle.instructions.specs.Decode.{decodeOf, decodedNumber}
-use Rattle.machine.specs.Step.{outcomeOf}
 use Rattle.instructions.specs.declared.Decoded.{Decoded}
 use Rattle.instructions.specs.declared.Decoded.the-variants.{Fits, NoCode, OutOfRange}
 use Rattle.instructions.proofs.Decoded.{the-type}
@@ -29,14 +34,14 @@ misfit-number (Fits x) (inr e) = absurd (omega arith)
 misfit-number NoCode k = refl
 misfit-number OutOfRange k = refl
 
-shaped : (c : tie.Start) → Shaped (c .args .s)
+shaped : (c : tie.Start) → Shaped (site (c .args .s))
 shaped c = shaped-by-type (c .args .s) _ (c .good .0 .1 .1)
 
 -- ---- what is known on the way
-unsound : (c : tie.Then1) → not (isSound (c .before .before .args .s)) ≡ true
+unsound : (c : tie.Then1) → not (isSound (site (c .before .before .args .s))) ≡ true
 unsound c = sym (ap not (c .before .is-sound .ensures .0)) ∙ c .if1 .taken
 
-sound : (c : tie.Else1) → not (isSound (c .before .before .args .s)) ≡ false
+sound : (c : tie.Else1) → not (isSound (site (c .before .before .args .s))) ≡ false
 sound c = sym (ap not (c .before .is-sound .ensures .0)) ∙ c .if1 .left
 
 -- once the bytes fit an instruction: the record has its shape and is sound, and which instruction it is
@@ -49,41 +54,28 @@ four-bytes c = fourBytes (c .args .code) (c .args .activator) (c .args .a) (c .a
 fit : (c : tie.After-decoded) → decodeOf (four-bytes (begun c)) ≡ Fits (c .decoded .given .0 .0)
 fit c = sym (c .before .before .decode .ensures .0) ∙ c .decoded .given .1
 
-is-sound-requires : tie.Need-is-sound-requires
-is-sound-requires c κs = tt
+-- the numbers that are asked for are those of the instruction's checks
+abbrev fitted : tie.After-early-refusal → tie.After-decoded
+fitted c = c .before .before .before .before
 
-outcome-of-requires : tie.Need-outcome-of-requires
-outcome-of-requires c κs = tt
+abbrev before-late : tie.After-late-refusal → tie.After-early-refusal
+before-late c = c .before .before .before
 
-decode-requires : tie.Need-decode-requires
-decode-requires c κs = tt
+early-is : (c : tie.After-early-refusal) → let x = begun (fitted c) .args in
+    c .early-refusal .result
+    ≡ firstMet (earlyChecks (seenOf (site (x .s)) (x .activator) (x .a) (x .b)) (rule (fitted c .decoded .given .0 .0)))
+early-is c =
+    c .early-refusal .ensures ∙ (λ i. firstMet (earlyChecks (c .before .look .ensures i) (c .before .before .rule-of .ensures i)))
 
-enum-known-decoded : tie.Need-enum-known-decoded
-enum-known-decoded c = search needs
-
-misfit-requires : tie.Need-misfit-requires
-misfit-requires c κs = tt
-
-outcome-of-requires-2 : tie.Need-outcome-of-requires-2
-outcome-of-requires-2 c κs = tt
-
-early-refusal-requires : tie.Need-early-refusal-requires
-early-refusal-requires c κs = tt
-
-outcome-of-requires-3 : tie.Need-outcome-of-requires-3
-outcome-of-requires-3 c κs = tt
-
-successor-requires : tie.Need-successor-requires
-successor-requires c κs = tt
-
-late-refusal-requires : tie.Need-late-refusal-requires
-late-refusal-requires c κs = tt
-
-outcome-of-requires-4 : tie.Need-outcome-of-requires-4
-outcome-of-requires-4 c κs = tt
-
-outcome-of-requires-5 : tie.Need-outcome-of-requires-5
-outcome-of-requires-5 c κs = tt
+late-is : (c : tie.After-late-refusal) → let at = fitted (before-late c) in
+    let r = rule (at .decoded .given .0 .0) in
+    c .late-refusal .result
+    ≡ firstMet (resultChecks (site (c .before .successor .result)) (r .target) (r .adds) (begun at .args .a) (begun at .args .b))
+late-is c =
+    let x = begun (fitted (before-late c)) .args in
+    c .late-refusal .ensures
+    ∙ ap (λ (r : Rule). firstMet (resultChecks (site (c .before .successor .result)) (r .target) (r .adds) (x .a) (x .b)))
+    (before-late c .before .before .rule-of .ensures)
 
 -- ---- what is returned
 returns : tie.Need-returns
@@ -94,51 +86,38 @@ returns-2 c =
     let decoded = c .before .before .before in
     let d = decoded .decode in
     c .outcome-of2 .ensures
-    ∙ (λ i. outcomeOf (c .before .misfit .ensures i) (decoded .before .before .before .args .s))
+    ∙ (λ i. verdict (c .before .misfit .ensures i) (site (decoded .before .before .before .args .s)))
     ∙ step-misfit _ _ (d .result) (sound (decoded .before)) (d .ensures .0) (misfit-number (d .result) (c .before .before .match .keys2))
 
 returns-3 : tie.Need-returns-3
 returns-3 c =
-    let at = c .before .before .before .before in
+    let early = c .before .before in
+    let at = fitted early in
     c .outcome-of3 .ensures
-    ∙ step-early _ _ (shaped (begun at)) _ (sound (at .before .before .before)) (fit at) _ (c .before .before .early-refusal .ensures) (c .before .if2 .taken)
+    ∙ step-early _ _ (shaped (begun at)) _ (sound (at .before .before .before)) (fit at) _ (early-is early)
+    (c .before .if2 .taken)
 
 returns-4 : tie.Need-returns-4
 returns-4 c =
     let late = c .before .before in
-    let early = late .before .before .before in
-    let at = early .before .before in
+    let early = before-late late in
+    let at = fitted early in
     c .outcome-of4 .ensures
-    ∙ step-late _ _ (shaped (begun at)) _ (sound (at .before .before .before)) (fit at) _ _ _ (early .early-refusal .ensures) (late .before .before .if2 .left)
-    (late .before .successor .ensures) (late .late-refusal .ensures) (c .before .if3 .taken)
+    ∙ step-late _ _ (shaped (begun at)) _ (sound (at .before .before .before)) (fit at) _ _ _ (early-is early)
+    (late .before .before .if2 .left) (late .before .successor .ensures) (late-is late) (c .before .if3 .taken)
 
 returns-5 : tie.Need-returns-5
 returns-5 c =
     let late = c .before .before in
-    let early = late .before .before .before in
-    let at = early .before .before in
+    let early = before-late late in
+    let at = fitted early in
     c .outcome-of5 .ensures
-    ∙ step-accepted _ _ (shaped (begun at)) _ (sound (at .before .before .before)) (fit at) _ _ _ (early .early-refusal .ensures) (late .before .before .if2 .left)
-    (late .before .successor .ensures) (late .late-refusal .ensures) (c .before .if3 .left)
+    ∙ step-accepted _ _ (shaped (begun at)) _ (sound (at .before .before .before)) (fit at) _ _ _ (early-is early)
+    (late .before .before .if2 .left) (late .before .successor .ensures) (late-is late) (c .before .if3 .left)
 
 pub step-spec : {M : Type 1} → statement M
 step-spec =
     tie.close
-    (tie.spec
-    is-sound-requires
-    outcome-of-requires
-    returns
-    decode-requires
-    enum-known-decoded
-    misfit-requires
-    outcome-of-requires-2
-    returns-2
-    early-refusal-requires
-    outcome-of-requires-3
-    returns-3
-    successor-requires
-    late-refusal-requires
-    outcome-of-requires-4
-    returns-4
-    outcome-of-requires-5
-    returns-5)
+    (tie.spec (λ c κs. tt) (λ c κs. tt) returns (λ c κs. tt) (λ c. search needs) (λ c κs. tt) (λ c κs. tt) returns-2
+    (λ c κs. tt) (λ c κs. tt) (λ c κs. tt) (λ c κs. tt) returns-3 (λ c κs. tt) (λ c κs. tt) (λ c κs. tt) returns-4
+    (λ c κs. tt) returns-5)

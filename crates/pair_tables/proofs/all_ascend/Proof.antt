@@ -1,23 +1,13 @@
 -- `pair_tables::all_ascend` meets its contract. The loop's invariant: `ascends` says whether each of the first k pairs comes before the next.
 -- Assumes nothing.
-use Prim.Native.Nat.{ℕ, _+_, _*_, _-_, _≤_}
-use mathlib.Core.Path.{_≡_, refl, sym, _∙_}
-use mathlib.Core.List.{List}
+use Prim.Native.Nat.{_-_, _≤_}
+use mathlib.Core.Path.{_≡_, sym}
 use native.Mathlib.Omega.{arith}
-use denote.Ref.{now}
-use lib.ListN.{getD}
 use Rattle.state.specs.Below.{eachBelow}
 use Rattle.state.proofs.Below.{each-none, each-step, each-end}
-use Rattle.pair_tables.specs.Pairs.{firstByte, secondByte, earlier, pairAscends, pairsAscend}
+use Rattle.pair_tables.specs.Pairs.{pairAscends, pairsAscend}
 use Rattle.pair_tables.proofs.all_ascend.Statement.{statement}
 use Rattle.pair_tables.proofs.all_ascend.Tie as tie
-
--- the bytes of pair k + 1
-next-read : (t : List ℕ) (k : ℕ) → earlier (firstByte t k) (secondByte t k) (getD t (k * 2 + 2) 0) (getD t (k * 2 + 3) 0) ≡ pairAscends t k
-next-read t k =
-    let first : k * 2 + 2 ≡ (k + 1) * 2 = omega arith in
-    let second : k * 2 + 3 ≡ (k + 1) * 2 + 1 = omega arith in
-    rw (first, second) refl
 
 abbrev Inv-loop : tie.InvT-loop
 Inv-loop table count k₀ ascends₀ k ascends = (k ≤ count - 1) × (ascends ≡ eachBelow k (pairAscends table))
@@ -46,26 +36,26 @@ add-is-earlier c = omega arith
 shared-slice-read-is-earlier-2 : tie.Need-shared-slice-read-is-earlier-2 Inv-loop μ-loop
 shared-slice-read-is-earlier-2 c = omega arith
 
-mul-is-earlier-3 : tie.Need-mul-is-earlier-3 Inv-loop μ-loop
-mul-is-earlier-3 c = omega arith
-
 add-is-earlier-2 : tie.Need-add-is-earlier-2 Inv-loop μ-loop
 add-is-earlier-2 c = omega arith
+
+mul-is-earlier-3 : tie.Need-mul-is-earlier-3 Inv-loop μ-loop
+mul-is-earlier-3 c = omega arith
 
 shared-slice-read-is-earlier-3 : tie.Need-shared-slice-read-is-earlier-3 Inv-loop μ-loop
 shared-slice-read-is-earlier-3 c = omega arith
 
-mul-is-earlier-4 : tie.Need-mul-is-earlier-4 Inv-loop μ-loop
-mul-is-earlier-4 c = omega arith
-
 add-is-earlier-3 : tie.Need-add-is-earlier-3 Inv-loop μ-loop
 add-is-earlier-3 c = omega arith
 
+mul-is-earlier-4 : tie.Need-mul-is-earlier-4 Inv-loop μ-loop
+mul-is-earlier-4 c = omega arith
+
+add-is-earlier-4 : tie.Need-add-is-earlier-4 Inv-loop μ-loop
+add-is-earlier-4 c = omega arith
+
 shared-slice-read-is-earlier-4 : tie.Need-shared-slice-read-is-earlier-4 Inv-loop μ-loop
 shared-slice-read-is-earlier-4 c = omega arith
-
-is-earlier-requires : tie.Need-is-earlier-requires Inv-loop μ-loop
-is-earlier-requires c κs = tt
 
 add-k : tie.Need-add-k Inv-loop μ-loop
 add-k c = omega arith
@@ -76,7 +66,7 @@ loop-less c = omega arith
 loop-again : tie.Need-loop-again Inv-loop μ-loop
 loop-again c =
     let at = c .before .before .before .before .before .before in
-    (omega arith, each-step _ _ _ _ (at .loop .inv .1) (c .is-earlier .ensures ∙ next-read (now (at .before .before .args .table)) (at .loop .k)))
+    (omega arith, each-step _ _ _ _ (at .loop .inv .1) (c .is-earlier .ensures))
 
 returns : tie.Need-returns Inv-loop μ-loop
 unfolding pairsAscend
@@ -95,13 +85,14 @@ all-ascend-spec =
     mul-is-earlier-2
     add-is-earlier
     shared-slice-read-is-earlier-2
-    mul-is-earlier-3
     add-is-earlier-2
+    mul-is-earlier-3
     shared-slice-read-is-earlier-3
-    mul-is-earlier-4
     add-is-earlier-3
+    mul-is-earlier-4
+    add-is-earlier-4
     shared-slice-read-is-earlier-4
-    is-earlier-requires
+    (λ c κs. tt)
     add-k
     loop-less
     loop-again

@@ -30,9 +30,6 @@ loop-holds c = (omega arith, sym (each-none _))
 add-loop : tie.Need-add-loop Inv-loop μ-loop
 add-loop c = omega arith
 
-run-fits-requires : tie.Need-run-fits-requires Inv-loop μ-loop
-run-fits-requires c κs = omega arith
-
 add-k : tie.Need-add-k Inv-loop μ-loop
 add-k c = omega arith
 
@@ -46,9 +43,6 @@ loop-again c =
 
 sub-run-fits : tie.Need-sub-run-fits Inv-loop μ-loop
 sub-run-fits c = omega arith
-
-run-fits-requires-2 : tie.Need-run-fits-requires-2 Inv-loop μ-loop
-run-fits-requires-2 c κs = omega arith
 
 returns : tie.Need-returns Inv-loop μ-loop
 unfolding pairsFit
@@ -66,10 +60,10 @@ all-fit-spec =
     μ-loop
     loop-holds
     add-loop
-    run-fits-requires
+    (λ c κs. omega arith)
     add-k
     loop-less
     loop-again
     sub-run-fits
-    run-fits-requires-2
+    (λ c κs. omega arith)
     returns)

@@ -35,9 +35,6 @@ add-put-in c = omega arith
 shared-slice-read-put-in-2 : tie.Need-shared-slice-read-put-in-2 Inv-loop μ-loop
 shared-slice-read-put-in-2 c = omega arith
 
-put-in-requires : tie.Need-put-in-requires Inv-loop μ-loop
-put-in-requires c κs = tt
-
 add-k : tie.Need-add-k Inv-loop μ-loop
 add-k c = omega arith
 
@@ -68,7 +65,7 @@ fill-spec =
     mul-put-in-2
     add-put-in
     shared-slice-read-put-in-2
-    put-in-requires
+    (λ c κs. tt)
     add-k
     loop-less
     loop-again

@@ -1,10 +1,8 @@
 -- `pair_tables::run_fits` meets its contract. The loop's invariant: what fits so far is whether each of the first i pairs does.
 -- Assumes nothing.
-use Prim.Native.Nat.{_+_, _*_, _-_, _≤_}
+use Prim.Native.Nat.{_-_, _≤_}
 use mathlib.Core.Path.{_≡_, refl, sym}
 use native.Mathlib.Omega.{arith}
-use denote.Ref.{now}
-use lib.ListN.{length}
 use Rattle.state.specs.Below.{eachBelow}
 use Rattle.state.proofs.Below.{each-none, each-step, each-end}
 use Rattle.pair_tables.specs.Runs.{pairFitsFrom}

@@ -20,11 +20,8 @@ tested bytes v e = ap (λ (b : Bool). b && eachBelow (length bytes) (isBit bytes
 returns : tie.Need-returns
 returns c = sym (tested _ false (ne-eqb _ _ (c .if1 .taken)))
 
-are-bits-requires : tie.Need-are-bits-requires
-are-bits-requires c κs = tt
-
 returns-2 : tie.Need-returns-2
 returns-2 c = c .are-bits .ensures ∙ sym (tested _ true (eq-eqb _ _ (c .before .if1 .left)))
 
 pub is-record-spec : {M : Type 1} → statement M
-is-record-spec = tie.close (tie.spec returns are-bits-requires returns-2)
+is-record-spec = tie.close (tie.spec returns (λ c κs. tt) returns-2)

@@ -8,7 +8,8 @@ use native.Mathlib.Omega.{arith}
 use borrow.Author.Tests.{not-true, not-false}
 use lib.ListN.{length}
 use Rattle.state.specs.Cells.{Members, Pairs}
-use Rattle.state.specs.Site.{user, area, object, owner, definition, structure, import, export, recordOf}
+use Rattle.state.specs.Site.{user, area, object, owner, definition, structure, import, export, siteOf}
+use Rattle.state.specs.Stands.{site}
 use Rattle.state.proofs.Bools.{holds}
 use Rattle.records.specs.Record.{recordSize, isRecord, listAt, pairsAt, stateAt}
 use Rattle.records.proofs.Known.{record-length, record-state, no-record-empty}
@@ -27,18 +28,12 @@ sized bytes e n = record-length bytes (holds (passed bytes e n))
 by-fields : (bytes : List ℕ) {us ar ob : Members} {ow de st im ex : Pairs}
     → us ≡ listAt bytes user → ar ≡ listAt bytes area → ob ≡ listAt bytes object
     → ow ≡ pairsAt bytes owner → de ≡ pairsAt bytes definition → st ≡ pairsAt bytes structure → im ≡ pairsAt bytes import → ex ≡ pairsAt bytes export
-    → recordOf us ar ob ow de st im ex ≡ stateAt bytes
+    → siteOf us ar ob ow de st im ex ≡ stateAt bytes
 by-fields bytes us ar ob ow de st im ex i =
     record { users = us i; areas = ar i; objects = ob i; owners = ow i; definitions = de i; structure = st i; imports = im i; exports = ex i }
 
 sized-at : (c : tie.Else1) → length (c .before .before .before .args .bytes .now) ≡ recordSize
 sized-at c = sized _ (c .before .is-record .ensures) (c .if1 .left)
-
-is-record-requires : tie.Need-is-record-requires
-is-record-requires c κs = tt
-
-empty-requires : tie.Need-empty-requires
-empty-requires c κs = tt
 
 returns : tie.Need-returns
 returns c = c .empty .ensures ∙ sym (no-record-empty _ (sym (c .before .before .is-record .ensures) ∙ not-true _ (c .before .if1 .taken)))
@@ -68,6 +63,7 @@ cells-2048-requires-3 : tie.Need-cells-2048-requires-3
 cells-2048-requires-3 c κs = omega (arith, sized-at (c .before .before .before .before .before .before .before))
 
 returns-2 : tie.Need-returns-2
+unfolding site
 returns-2 c =
     let exports = c in
     let imports = exports .before in
@@ -85,16 +81,6 @@ returns-2 c =
 pub state-of-spec : {M : Type 1} → statement M
 state-of-spec =
     tie.close
-    (tie.spec
-    is-record-requires
-    empty-requires
-    returns
-    cells-32-requires
-    cells-32-requires-2
-    cells-64-requires
-    cells-1024-requires
-    cells-2048-requires
-    cells-1024-requires-2
-    cells-2048-requires-2
-    cells-2048-requires-3
+    (tie.spec (λ c κs. tt) (λ c κs. tt) returns cells-32-requires cells-32-requires-2 cells-64-requires
+    cells-1024-requires cells-2048-requires cells-1024-requires-2 cells-2048-requires-2 cells-2048-requires-3
     returns-2)

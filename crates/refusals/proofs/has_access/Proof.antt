@@ -7,15 +7,6 @@ use Rattle.access.proofs.Laws.{access-is-steps}
 use Rattle.refusals.proofs.has_access.Statement.{statement}
 use Rattle.refusals.proofs.has_access.Tie as tie
 
-steps-requires : tie.Need-steps-requires
-steps-requires c κs = tt
-
-enum-told : tie.Need-enum-told
-enum-told c = search needs
-
-enum-told-2 : tie.Need-enum-told-2
-enum-told-2 c = search needs
-
 returns : tie.Need-returns
 returns c = sym (access-is-steps _ _ ∙ ap isSteps (sym (c .before .before .steps .ensures .0) ∙ c .enum-told .given .1))
 
@@ -23,4 +14,4 @@ returns-2 : tie.Need-returns-2
 returns-2 c = sym (access-is-steps _ _ ∙ ap isSteps (sym (c .before .before .steps .ensures .0) ∙ c .enum-told2 .given .1))
 
 pub has-access-spec : {M : Type 1} → statement M
-has-access-spec = tie.close (tie.spec steps-requires enum-told enum-told-2 returns returns-2)
+has-access-spec = tie.close (tie.spec (λ c κs. tt) (λ c. search needs) (λ c. search needs) returns returns-2)

@@ -1,121 +1,101 @@
--- `refusals::late_refusal` meets its contract: by the arm only one of the checks 8 to 11 can be met, but for the unlisting of an area.
+-- `refusals::late_refusal` meets its contract: in each arm the number is that of the checks of its target.
 -- Assumes nothing.
 use Prim.Native.Nat.{ℕ}
-use mathlib.Core.Path.{_≡_, refl, sym, ap, _∙_}
-use mathlib.Core.Bool.{Bool, true, false, not}
+use mathlib.Core.Path.{_≡_, refl, sym, _∙_}
+use mathlib.Core.Bool.{Bool, true, false}
 use mathlib.Core.List.{[], _∷_}
 use borrow.Author.Needs.{needs}
-use Rattle.state.specs.declared.State.{State}
 use Rattle.state.specs.Checks.{_when_, firstMet}
-use Rattle.refusals.specs.Parts.{late}
-use Rattle.instructions.specs.declared.Instruction.{Instruction}
-use Rattle.state.proofs.Checks.{met, passed, none-met}
-use Rattle.instructions.proofs.Arms.{in-arm}
+use Rattle.state.specs.Site.{Site}
+use Rattle.state.specs.Stands.{site}
+use Rattle.state.proofs.Checks.{passed, none-met}
+use Rattle.instructions.specs.declared.Target.{Target}
+use Rattle.instructions.specs.declared.Target.the-variants.{TheArea, Owner, Definition, Structure, Import, Export}
+use Rattle.refusals.specs.Parts.{resultChecks}
 use Rattle.refusals.proofs.late_refusal.Statement.{statement}
 use Rattle.refusals.proofs.late_refusal.Tie as tie
 
--- a table of four in which three are not met
-module _ (p : Bool) where
-  only-8 : p ≡ true → 8 ≡ firstMet ((8 when p) ∷ (9 when false) ∷ (10 when false) ∷ (11 when false) ∷ [])
-  only-8 e = sym (met _ _ e)
+-- the number in the arm of target k, of an add or a remove
+in-arm : (t : Site) {n : ℕ} {target : Target} {adds : Bool} (k : Target) (v : Bool) (a b : ℕ)
+    → n ≡ firstMet (resultChecks t k v a b) → target ≡ k → adds ≡ v → n ≡ firstMet (resultChecks t target adds a b)
+in-arm t k v a b e told kind = e ∙ (λ i. firstMet (resultChecks t (sym told i) (sym kind i) a b))
 
-  no-8 : p ≡ false → 0 ≡ firstMet ((8 when p) ∷ (9 when false) ∷ (10 when false) ∷ (11 when false) ∷ [])
-  no-8 e = sym (passed _ _ e ∙ passed _ _ refl ∙ passed _ _ refl ∙ passed _ _ refl ∙ none-met)
-
-  only-10 : p ≡ true → 10 ≡ firstMet ((8 when false) ∷ (9 when false) ∷ (10 when p) ∷ (11 when false) ∷ [])
-  only-10 e = sym (passed _ _ refl ∙ passed _ _ refl ∙ met _ _ e)
-
-  no-10 : p ≡ false → 0 ≡ firstMet ((8 when false) ∷ (9 when false) ∷ (10 when p) ∷ (11 when false) ∷ [])
-  no-10 e = sym (passed _ _ refl ∙ passed _ _ refl ∙ passed _ _ e ∙ passed _ _ refl ∙ none-met)
-
-  only-11 : p ≡ true → 11 ≡ firstMet ((8 when false) ∷ (9 when false) ∷ (10 when false) ∷ (11 when p) ∷ [])
-  only-11 e = sym (passed _ _ refl ∙ passed _ _ refl ∙ passed _ _ refl ∙ met _ _ e)
-
-  no-11 : p ≡ false → 0 ≡ firstMet ((8 when false) ∷ (9 when false) ∷ (10 when false) ∷ (11 when p) ∷ [])
-  no-11 e = sym (passed _ _ refl ∙ passed _ _ refl ∙ passed _ _ refl ∙ passed _ _ e ∙ none-met)
-
--- the number n is that of the instruction's checks
-abbrev Is : (n : ℕ) (t : State) (a b : ℕ) → Instruction → Type 0
-Is n t a b y = n ≡ firstMet (late t y a b)
-
-enum-told : tie.Need-enum-told
-enum-told c = search needs
-
-unlist-refusal-requires : tie.Need-unlist-refusal-requires
-unlist-refusal-requires c κs = tt
-
-enum-told-2 : tie.Need-enum-told-2
-enum-told-2 c = search needs
-
-in-column-requires : tie.Need-in-column-requires
-in-column-requires c κs = tt
-
-has-access-requires : tie.Need-has-access-requires
-has-access-requires c κs = tt
-
-is-valid-requires : tie.Need-is-valid-requires
-is-valid-requires c κs = tt
+-- an add of what needs no access
+none : 0 ≡ firstMet ((8 when false) ∷ (9 when false) ∷ (10 when false) ∷ (11 when false) ∷ [])
+none = sym (passed _ _ refl ∙ passed _ _ refl ∙ passed _ _ refl ∙ passed _ _ refl ∙ none-met)
 
 returns : tie.Need-returns
 returns c =
     let x = c .before .before .before .args in
-    c .unlist-refusal .ensures ∙ ap (λ (y : Instruction). firstMet (late (x .t1) y (x .a) (x .b))) (sym (c .before .enum-told .given .1))
+    in-arm (site (x .t)) TheArea true (x .a) (x .b) none (c .before .enum-told .given .1) (c .if1 .taken)
 
 returns-2 : tie.Need-returns-2
 returns-2 c =
-    let x = c .before .before .before .before .before .before .before .args in
-    no-8 _ (ap not (sym (c .before .in-column .ensures) ∙ c .if1 .taken)) ∙ ap (λ (y : Instruction). firstMet (late (x .t1) y (x .a) (x .b))) (sym (c .before .before .before .before .before .enum-told2 .given .1))
+    let x = c .before .before .before .before .args in
+    in-arm (site (x .t)) TheArea false (x .a) (x .b) (c .unlist-refusal .ensures) (c .before .before .enum-told .given .1)
+    (c .before .if1 .left)
 
 returns-3 : tie.Need-returns-3
 returns-3 c =
-    let x = c .before .before .before .before .before .before .before .args in
-    only-8 _ (ap not (sym (c .before .in-column .ensures) ∙ c .if1 .left)) ∙ ap (λ (y : Instruction). firstMet (late (x .t1) y (x .a) (x .b))) (sym (c .before .before .before .before .before .enum-told2 .given .1))
+    let x = c .before .before .before .args in
+    in-arm (site (x .t)) Owner true (x .a) (x .b) none (c .before .enum-told2 .given .1) (c .if2 .taken)
 
 returns-4 : tie.Need-returns-4
 returns-4 c =
-    let x = c .before .before .before .args in
-    let fine = no-10 _ (ap not (sym (c .before .has-access .ensures) ∙ c .if2 .taken)) in
-    in-arm (Is 0 (x .t1) (x .a) (x .b)) (x .x) 8 (10 ∷ []) (c .before .before .match .keys3) (fine, (fine, tt))
+    let x = c .before .before .before .before .args in
+    in-arm (site (x .t)) Owner false (x .a) (x .b) (c .disown-refusal .ensures) (c .before .before .enum-told2 .given .1)
+    (c .before .if2 .left)
 
 returns-5 : tie.Need-returns-5
 returns-5 c =
     let x = c .before .before .before .args in
-    let refused = only-10 _ (ap not (sym (c .before .has-access .ensures) ∙ c .if2 .left)) in
-    in-arm (Is 10 (x .t1) (x .a) (x .b)) (x .x) 8 (10 ∷ []) (c .before .before .match .keys3) (refused, (refused, tt))
+    in-arm (site (x .t)) Definition true (x .a) (x .b) none (c .before .enum-told3 .given .1) (c .if3 .taken)
 
 returns-6 : tie.Need-returns-6
 returns-6 c =
-    let x = c .before .before .before .args in
-    let fine = no-11 _ (ap not (sym (c .before .is-valid .ensures .0) ∙ c .if3 .taken)) in
-    in-arm (Is 0 (x .t1) (x .a) (x .b)) (x .x) 5 (7 ∷ 9 ∷ 11 ∷ []) (c .before .before .match .keys4) (fine, (fine, (fine, (fine, tt))))
+    let x = c .before .before .before .before .args in
+    in-arm (site (x .t)) Definition false (x .a) (x .b) (c .cut-refusal .ensures) (c .before .before .enum-told3 .given .1)
+    (c .before .if3 .left)
 
 returns-7 : tie.Need-returns-7
 returns-7 c =
     let x = c .before .before .before .args in
-    let refused = only-11 _ (ap not (sym (c .before .is-valid .ensures .0) ∙ c .if3 .left)) in
-    in-arm (Is 11 (x .t1) (x .a) (x .b)) (x .x) 5 (7 ∷ 9 ∷ 11 ∷ []) (c .before .before .match .keys4) (refused, (refused, (refused, (refused, tt))))
+    in-arm (site (x .t)) Structure true (x .a) (x .b) none (c .before .enum-told4 .given .1) (c .if4 .taken)
 
 returns-8 : tie.Need-returns-8
 returns-8 c =
-    let x = c .before .args in
-    let fine = no-8 false refl in
-    in-arm (Is 0 (x .t1) (x .a) (x .b)) (x .x) 0 (2 ∷ 4 ∷ 6 ∷ []) (c .match .keys5) (fine, (fine, (fine, (fine, tt))))
+    let x = c .before .before .before .before .args in
+    in-arm (site (x .t)) Structure false (x .a) (x .b) (c .cut-refusal2 .ensures) (c .before .before .enum-told4 .given .1)
+    (c .before .if4 .left)
+
+returns-9 : tie.Need-returns-9
+returns-9 c =
+    let x = c .before .before .before .before .args in
+    in-arm (site (x .t)) Import true (x .a) (x .b) (c .entry-refusal .ensures) (c .before .before .enum-told5 .given .1)
+    (c .before .if5 .taken)
+
+returns-10 : tie.Need-returns-10
+returns-10 c =
+    let x = c .before .before .before .before .args in
+    in-arm (site (x .t)) Import false (x .a) (x .b) (c .cut-refusal3 .ensures) (c .before .before .enum-told5 .given .1)
+    (c .before .if5 .left)
+
+returns-11 : tie.Need-returns-11
+returns-11 c =
+    let x = c .before .before .before .before .args in
+    in-arm (site (x .t)) Export true (x .a) (x .b) (c .entry-refusal2 .ensures) (c .before .before .enum-told6 .given .1)
+    (c .before .if6 .taken)
+
+returns-12 : tie.Need-returns-12
+returns-12 c =
+    let x = c .before .before .before .before .args in
+    in-arm (site (x .t)) Export false (x .a) (x .b) (c .cut-refusal4 .ensures) (c .before .before .enum-told6 .given .1)
+    (c .before .if6 .left)
 
 pub late-refusal-spec : {M : Type 1} → statement M
 late-refusal-spec =
     tie.close
-    (tie.spec
-    enum-told
-    unlist-refusal-requires
-    enum-told-2
-    in-column-requires
-    has-access-requires
-    is-valid-requires
-    returns
-    returns-2
-    returns-3
-    returns-4
-    returns-5
-    returns-6
-    returns-7
-    returns-8)
+    (tie.spec (λ c. search needs) (λ c κs. tt) (λ c. search needs) (λ c κs. tt) (λ c. search needs) (λ c κs. tt)
+    (λ c. search needs) (λ c κs. tt) (λ c. search needs) (λ c κs. tt) (λ c κs. tt) (λ c. search needs) (λ c κs. tt)
+    (λ c κs. tt) returns returns-2 returns-3 returns-4 returns-5 returns-6 returns-7 returns-8 returns-9 returns-10
+    returns-11 returns-12)

@@ -33,9 +33,6 @@ Inv-loop cells first row found₀ j₀ found j = (j ≤ 32) × Found (pair cells
 abbrev μ-loop : tie.MeasureT-loop
 μ-loop cells first row found₀ j₀ found j = 32 - j
 
-row-of-requires : tie.Need-row-of-requires Inv-loop μ-loop
-row-of-requires c κs = tt
-
 loop-holds : tie.Need-loop-holds Inv-loop μ-loop
 loop-holds c = (omega arith, found-none _)
 
@@ -59,13 +56,4 @@ returns c = found-all _ _ _ _ (omega arith) (c .before .loop .inv .1)
 pub in-row-spec : {M : Type 1} → statement M
 in-row-spec =
     tie.close
-    (tie.spec
-    Inv-loop
-    μ-loop
-    row-of-requires
-    loop-holds
-    array-read-found
-    add-j
-    loop-less
-    loop-again
-    returns)
+    (tie.spec Inv-loop μ-loop (λ c κs. tt) loop-holds array-read-found add-j loop-less loop-again returns)

@@ -39,9 +39,6 @@ abbrev μ-loop : tie.MeasureT-loop
 mul-from : tie.Need-mul-from Inv-loop μ-loop
 mul-from c = omega arith
 
-row-len-requires : tie.Need-row-len-requires Inv-loop μ-loop
-row-len-requires c κs = tt
-
 loop-holds : tie.Need-loop-holds Inv-loop μ-loop
 unfolding nothing
 loop-holds c = (omega arith, filled-none _ _ _ _ refl, kept-none false 32)
@@ -81,16 +78,5 @@ returns c =
 pub row-of-spec : {M : Type 1} → statement M
 row-of-spec =
     tie.close
-    (tie.spec
-    Inv-loop
-    μ-loop
-    mul-from
-    row-len-requires
-    loop-holds
-    add-out
-    shared-slice-read-out
-    array-write-out
-    add-j
-    loop-less
-    loop-again
-    returns)
+    (tie.spec Inv-loop μ-loop mul-from (λ c κs. tt) loop-holds add-out shared-slice-read-out array-write-out add-j
+    loop-less loop-again returns)

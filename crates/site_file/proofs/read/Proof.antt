@@ -7,32 +7,31 @@ use mathlib.Core.List.{List, _∷_, _++_}
 use borrow.Author.Tests.{eq-eqb, ne-eqb}
 use lib.Dec.{eqb}
 use Rattle.state.specs.Checks.{Check, _when_, firstMet}
-use Rattle.state.specs.Site.{founding}
-use Rattle.state.specs.declared.State.{State}
+use Rattle.state.specs.Site.{Site, founding, Verdict, verdict}
 use Rattle.state.proofs.Checks.{met, passed, first-of-two}
 use Rattle.soundness.specs.Sound.{Sound}
 use Rattle.site_format.specs.Format.{labels, part}
 use Rattle.site_header.specs.Header.{headerChecks}
-use Rattle.site_file.specs.Reading.{tablesAscend, stateIn, tableChecks, stateChecks, fileRefusal, readingOf, readOf}
-use Rattle.site_file.specs.declared.Reading.{Reading}
+use Rattle.site_file.specs.Reading.{tablesAscend, stateIn, tableChecks, stateChecks, fileRefusal, readOf}
 use Rattle.site_file.proofs.Laws.{read-sound}
 use Rattle.site_file.proofs.read.Statement.{statement}
 use Rattle.site_file.proofs.read.Tie as tie
 
 module _ (file : List ℕ) where
   -- both promises, from the equation
-  promised : {r : Reading} → r ≡ readOf file → (r ≡ readOf file) × Sound (r .state)
-  promised e = (e, subst (λ (x : Reading). Sound (x .state)) (sym e) (read-sound file))
+  promised : (v : Verdict) → v ≡ readOf file → (v ≡ readOf file) × Sound (v .state)
+  promised v e = (e, subst (λ (x : Verdict). Sound (x .state)) (sym e) (read-sound file))
 
   -- a reading with a refusal, and one without
-  refusing : {r : Reading} {n : ℕ} → r ≡ readingOf n founding → n ≡ fileRefusal file → eqb n 0 ≡ false → (r ≡ readOf file) × Sound (r .state)
+  refusing : (v : Verdict) {n : ℕ} → v ≡ verdict n founding → n ≡ fileRefusal file → eqb n 0 ≡ false
+      → (v ≡ readOf file) × Sound (v .state)
   unfolding readOf
-  refusing e m z =
-      promised (e ∙ ap₂ readingOf m (ap (λ (b : Bool). cond b (stateIn file) founding) (sym z ∙ ap (λ (k : ℕ). eqb k 0) m)))
+  refusing v e m z =
+      promised v (e ∙ ap₂ verdict m (ap (λ (b : Bool). cond b (stateIn file) founding) (sym z ∙ ap (λ (k : ℕ). eqb k 0) m)))
 
-  accepting : {s : State} → s ≡ stateIn file → 0 ≡ fileRefusal file → (readingOf 0 s ≡ readOf file) × Sound s
+  accepting : (s : Site) → s ≡ stateIn file → 0 ≡ fileRefusal file → (verdict 0 s ≡ readOf file) × Sound s
   unfolding readOf
-  accepting f m = promised (ap₂ readingOf m (f ∙ ap (λ (k : ℕ). cond (eqb k 0) (stateIn file) founding) m))
+  accepting s f m = promised (verdict 0 s) (ap₂ verdict m (f ∙ ap (λ (k : ℕ). cond (eqb k 0) (stateIn file) founding) m))
 
   -- the checks behind those of the header, and behind those of the tables
   abbrev ofState : List Check
@@ -51,35 +50,11 @@ module _ (file : List ℕ) where
   behind-header : {n : ℕ} → n ≡ firstMet (headerChecks file) → n ≡ 0 → fileRefusal file ≡ firstMet later
   behind-header {n} e z = of-header e ∙ ap (λ (b : Bool). cond b (firstMet later) n) (eq-eqb n 0 z)
 
-  behind-tables : {n : ℕ} {s : State} → s ≡ stateIn file → n ≡ firstMet (stateChecks s (part file labels)) → fileRefusal file ≡ firstMet ofState → n ≡ fileRefusal file
-  behind-tables h e m = e ∙ ap (λ (x : State). firstMet (stateChecks x (part file labels))) h ∙ sym m
-
-header-refusal-requires : tie.Need-header-refusal-requires
-header-refusal-requires c κs = tt
-
-refused-requires : tie.Need-refused-requires
-refused-requires c κs = tt
-
-tables-fit-requires : tie.Need-tables-fit-requires
-tables-fit-requires c κs = tt
-
-refused-requires-2 : tie.Need-refused-requires-2
-refused-requires-2 c κs = tt
-
-tables-ascend-requires : tie.Need-tables-ascend-requires
-tables-ascend-requires c κs = tt
-
-refused-requires-3 : tie.Need-refused-requires-3
-refused-requires-3 c κs = tt
-
-state-in-requires : tie.Need-state-in-requires
-state-in-requires c κs = tt
+  behind-tables : {n : ℕ} {s : Site} → s ≡ stateIn file → n ≡ firstMet (stateChecks s (part file labels)) → fileRefusal file ≡ firstMet ofState → n ≡ fileRefusal file
+  behind-tables h e m = e ∙ ap (λ (x : Site). firstMet (stateChecks x (part file labels))) h ∙ sym m
 
 state-refusal-requires : tie.Need-state-refusal-requires
 state-refusal-requires c κs = c .state-in .ensures
-
-refused-requires-4 : tie.Need-refused-requires-4
-refused-requires-4 c κs = tt
 
 -- what each test that is passed says of the refusal
 headed : (c : tie.Else1) → fileRefusal (c .before .before .before .args .file .now) ≡ firstMet (later (c .before .before .before .args .file .now))
@@ -93,43 +68,30 @@ ascended c = ranged (c .before) ∙ passed _ _ (ap not (sym (c .before .before .
 
 returns : tie.Need-returns
 returns c =
-    refusing _ (c .refused .ensures) (in-header _ (c .before .before .header-refusal .ensures) (c .before .if1 .taken)) (ne-eqb _ _ (c .before .if1 .taken))
+    refusing _ _ (c .refused .ensures) (in-header _ (c .before .before .header-refusal .ensures) (c .before .if1 .taken)) (ne-eqb _ _ (c .before .if1 .taken))
 
 returns-2 : tie.Need-returns-2
 returns-2 c =
     let number = headed (c .before .before .before .before) ∙ met _ _ (ap not (sym (c .before .before .before .tables-fit .ensures)) ∙ c .before .if2 .taken) in
-    refusing _ (c .refused2 .ensures) (sym number) refl
+    refusing _ _ (c .refused2 .ensures) (sym number) refl
 
 returns-3 : tie.Need-returns-3
 returns-3 c =
     let number = ranged (c .before .before) ∙ met _ _ (ap not (sym (c .before .before .before .tables-ascend .ensures)) ∙ c .before .if3 .taken) in
-    refusing _ (c .refused3 .ensures) (sym number) refl
+    refusing _ _ (c .refused3 .ensures) (sym number) refl
 
 returns-4 : tie.Need-returns-4
 returns-4 c =
     let number = behind-tables _ (c .before .before .before .state-in .ensures) (c .before .before .state-refusal .ensures) (ascended (c .before .before .before .before)) in
-    refusing _ (c .refused4 .ensures) number (ne-eqb _ _ (c .before .if4 .taken))
+    refusing _ _ (c .refused4 .ensures) number (ne-eqb _ _ (c .before .if4 .taken))
 
 returns-5 : tie.Need-returns-5
 returns-5 c =
     let number = behind-tables _ (c .before .before .state-in .ensures) (c .before .state-refusal .ensures) (ascended (c .before .before .before)) in
-    accepting _ (c .before .before .state-in .ensures) (sym (c .if4 .left) ∙ number)
+    accepting _ _ (c .before .before .state-in .ensures) (sym (c .if4 .left) ∙ number)
 
 pub read-spec : {M : Type 1} → statement M
 read-spec =
     tie.close
-    (tie.spec
-    header-refusal-requires
-    refused-requires
-    returns
-    tables-fit-requires
-    tables-ascend-requires
-    refused-requires-2
-    returns-2
-    refused-requires-3
-    returns-3
-    state-in-requires
-    state-refusal-requires
-    refused-requires-4
-    returns-4
-    returns-5)
+    (tie.spec (λ c κs. tt) (λ c κs. tt) returns (λ c κs. tt) (λ c κs. tt) (λ c κs. tt) returns-2 (λ c κs. tt)
+    returns-3 (λ c κs. tt) state-refusal-requires (λ c κs. tt) returns-4 returns-5)

@@ -4,8 +4,8 @@ use Prim.Native.Nat.{ℕ}
 use mathlib.Core.Path.{_≡_, sym, ap, subst, _∙_}
 use mathlib.Core.Bool.{Bool, true, false, _||_, not}
 use mathlib.Core.List.{List}
-use Rattle.state.specs.Site.{Shaped}
-use Rattle.state.specs.declared.State.{State}
+use Rattle.state.specs.Site.{Site, Shaped}
+use Rattle.state.specs.Stands.{site}
 use Rattle.state.proofs.Checks.{met, passed, none-met}
 use Rattle.soundness.specs.Tests.{isWellFormed, isValid}
 use Rattle.label_tables.specs.Labels.{labelsListed}
@@ -17,7 +17,7 @@ use Rattle.site_file.proofs.state_refusal.Statement.{statement}
 use Rattle.site_file.proofs.state_refusal.Tie as tie
 
 -- 28 from what was told of the state that a file holds
-module _ (s : State) (file : List ℕ) (held : s ≡ stateIn file) where
+module _ (s : Site) (file : List ℕ) (held : s ≡ stateIn file) where
   lists : Derived s
   lists = subst Derived (sym held) (derived file)
 
@@ -33,24 +33,14 @@ module _ (s : State) (file : List ℕ) (held : s ≡ stateIn file) where
   labelled : {told listed : Bool} {table : List ℕ} (v : Bool) → told ≡ isWellFormed s → listed ≡ labelsListed (s .areas) table → table ≡ part file labels → not told ≡ false → not listed ≡ v → condition ≡ v
   labelled v e k t = by-labels s lists shape (part file labels) v e (k ∙ ap (labelsListed (s .areas)) t)
 
-is-well-formed-requires : tie.Need-is-well-formed-requires
-is-well-formed-requires c κs = tt
-
-labels-requires : tie.Need-labels-requires
-labels-requires c κs = tt
-
-all-listed-requires : tie.Need-all-listed-requires
-all-listed-requires c κs = tt
-
-is-valid-requires : tie.Need-is-valid-requires
-is-valid-requires c κs = tt
-
 -- 28, where the record is well-formed: the labels decide
-by-listed : (c : tie.After-all-listed) (v : Bool) → not (c .all-listed .result) ≡ v
-    → let start = c .before .before .before .before .before .before .before .before in condition (start .args .t1) (start .args .file .now) (start .pre) ≡ v
+by-listed : (c : tie.After-labels-listed) (v : Bool) → not (c .labels-listed .result) ≡ v
+    → let start = c .before .before .before .before .before in
+    condition (site (start .args .s)) (start .args .file .now) (start .pre) ≡ v
 by-listed c v e =
-    let formed = c .before .before .before .before .before in
-    labelled _ _ (formed .before .before .before .pre) v (formed .before .is-well-formed .ensures) (c .all-listed .ensures) (c .before .labels .ensures) (formed .if1 .left) e
+    let formed = c .before .before in
+    labelled _ _ (formed .before .before .before .pre) v (formed .before .is-well-formed .ensures)
+    (c .labels-listed .ensures) (c .before .labels .ensures) (formed .if1 .left) e
 
 returns : tie.Need-returns
 returns c = sym (met _ _ (ill-formed _ _ (c .before .before .before .pre) (c .before .is-well-formed .ensures) (c .if1 .taken)))
@@ -72,4 +62,4 @@ returns-4 c =
 pub state-refusal-spec : {M : Type 1} → statement M
 state-refusal-spec =
     tie.close
-    (tie.spec is-well-formed-requires returns labels-requires all-listed-requires returns-2 is-valid-requires returns-3 returns-4)
+    (tie.spec (λ c κs. tt) returns (λ c κs. tt) (λ c κs. tt) returns-2 (λ c κs. tt) returns-3 returns-4)

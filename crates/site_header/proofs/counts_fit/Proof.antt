@@ -1,53 +1,70 @@
--- `site_header::counts_fit` meets its contract: each field is compared with its table's limit.
+-- `site_header::counts_fit` meets its contract. The loop's invariant: what fits so far, and the counts that are left, decide.
 -- Assumes nothing.
-use Prim.Native.Nat.{ℕ}
-use mathlib.Core.Path.{ap}
-use mathlib.Core.Bool.{Bool, not}
-use lib.Dec.{ltb}
-use Rattle.site_format.specs.Format.{Content, layoutOf, countIn}
-use Rattle.site_format.proofs.Tables.{each-of-six}
+use Prim.Native.Nat.{_+_, _-_, _≤_, _<_}
+use mathlib.Core.Path.{_≡_, sym, ap, _∙_}
+use mathlib.Core.Bool.{Bool, _&&_, and-true}
+use mathlib.Core.List.{List}
+use native.Mathlib.Omega.{arith}
+use denote.Ref.{now}
+use lib.ListN.{length}
+use Rattle.site_format.specs.Format.{Content, eachTable}
+use Rattle.site_header.specs.Header.{countFits, countsFit}
+use Rattle.site_header.proofs.Loop.{leftFrom, one-more, none-left, six}
 use Rattle.site_header.proofs.counts_fit.Statement.{statement}
 use Rattle.site_header.proofs.counts_fit.Tie as tie
 
-abbrev above : ℕ → ℕ → Bool
-above most n = not (ltb most n)
+abbrev Inv-loop : tie.InvT-loop
+Inv-loop file tables fits₀ k₀ fits k = (k ≤ 6) × (fits && eachTable (leftFrom tables k) (countFits file) ≡ countsFit file)
 
-field-at-requires : tie.Need-field-at-requires
-field-at-requires c κs = tt
+abbrev μ-loop : tie.MeasureT-loop
+μ-loop file tables fits₀ k₀ fits k = 6 - k
 
-field-at-requires-2 : tie.Need-field-at-requires-2
-field-at-requires-2 c κs = tt
+loop-holds : tie.Need-loop-holds Inv-loop μ-loop
+loop-holds c =
+    (omega arith, ap (λ (cs : List Content). eachTable cs (countFits (now (c .before .before .args .file)))) (c .all .ensures))
 
-field-at-requires-3 : tie.Need-field-at-requires-3
-field-at-requires-3 c κs = tt
+array-copy-out-count-fits : tie.Need-array-copy-out-count-fits Inv-loop μ-loop
+array-copy-out-count-fits c = omega arith
 
-field-at-requires-4 : tie.Need-field-at-requires-4
-field-at-requires-4 c κs = tt
+add-k : tie.Need-add-k Inv-loop μ-loop
+add-k c = omega arith
 
-field-at-requires-5 : tie.Need-field-at-requires-5
-field-at-requires-5 c κs = tt
+loop-less : tie.Need-loop-less Inv-loop μ-loop
+loop-less c = omega arith
 
-field-at-requires-6 : tie.Need-field-at-requires-6
-field-at-requires-6 c κs = tt
+loop-again : tie.Need-loop-again Inv-loop μ-loop
+loop-again c =
+    let at = c .before .before .before in
+    let got = at .before in
+    let ts = got .all .result in
+    let fits = countFits (now (got .before .before .args .file)) in
+    let rest = eachTable (leftFrom ts (at .loop .k + 1)) fits in
+    let inside : at .loop .k < length ts = rw (six ts (got .all .ensures)) (omega arith) in (
+      omega arith,
+      one-more ts (at .loop .k) (at .loop .fits) (λ (cs : List Content). eachTable cs fits) (c .count-fits .result) rest inside
+          (ap (λ (b : Bool). b && rest) (sym (c .count-fits .ensures))) (at .loop .inv .1),
+    )
 
-returns : tie.Need-returns
+returns : tie.Need-returns Inv-loop μ-loop
 returns c =
-    each-of-six (λ (x : Content). not (ltb (layoutOf x .most) (countIn (c .before .before .before .before .before .before .before .args .file .now) x)))
-    (ap (above 1024) (c .before .before .before .before .before .field-at .ensures))
-    (ap (above 64) (c .before .before .before .before .field-at2 .ensures))
-    (ap (above 1024) (c .before .before .before .field-at3 .ensures))
-    (ap (above 2048) (c .before .before .field-at4 .ensures))
-    (ap (above 2048) (c .before .field-at5 .ensures))
-    (ap (above 32) (c .field-at6 .ensures))
+    let at = c .before in
+    let got = at .before in
+    let ts = got .all .result in
+    let fits = countFits (now (got .before .before .args .file)) in
+    let through : length ts ≤ at .loop .k = rw (six ts (got .all .ensures)) (omega arith) in
+    sym (and-true (at .loop .fits)) ∙ none-left ts (at .loop .k) (at .loop .fits) (λ (cs : List Content). eachTable cs fits) through (at .loop .inv .1)
 
 pub counts-fit-spec : {M : Type 1} → statement M
 counts-fit-spec =
     tie.close
     (tie.spec
-    field-at-requires
-    field-at-requires-2
-    field-at-requires-3
-    field-at-requires-4
-    field-at-requires-5
-    field-at-requires-6
+    Inv-loop
+    μ-loop
+    (λ c κs. tt)
+    loop-holds
+    array-copy-out-count-fits
+    (λ c κs. tt)
+    add-k
+    loop-less
+    loop-again
     returns)

@@ -9,12 +9,6 @@ use Rattle.state.proofs.Cells.{pair-inside, pair-outside}
 use Rattle.state.proofs.is_pair.Statement.{statement}
 use Rattle.state.proofs.is_pair.Tie as tie
 
-cell-of-requires : tie.Need-cell-of-requires
-cell-of-requires c κs = tt
-
-read-requires : tie.Need-read-requires
-read-requires c κs = tt
-
 returns : tie.Need-returns
 returns c =
     c .read .ensures ∙ ap (λ (k : ℕ). getD (now (c .before .before .before .before .args .cells)) k false) (c .before .cell-of .ensures)
@@ -24,4 +18,4 @@ returns-2 : tie.Need-returns-2
 returns-2 c = sym (pair-outside _ _ _ (c .if1 .left))
 
 pub is-pair-spec : {M : Type 1} → statement M
-is-pair-spec = tie.close (tie.spec cell-of-requires read-requires returns returns-2)
+is-pair-spec = tie.close (tie.spec (λ c κs. tt) (λ c κs. tt) returns returns-2)

@@ -5,9 +5,6 @@ use Rattle.state.specs.Cells.{mark}
 use Rattle.state.proofs.mark_in.Statement.{statement}
 use Rattle.state.proofs.mark_in.Tie as tie
 
-write-requires : tie.Need-write-requires
-write-requires c κs = tt
-
 same-length : tie.Need-same-length
 same-length c = search needs
 
@@ -16,4 +13,4 @@ unfolding mark
 returns c = search needs
 
 pub mark-in-spec : {M : Type 1} → statement M
-mark-in-spec = tie.close (tie.spec write-requires same-length returns)
+mark-in-spec = tie.close (tie.spec (λ c κs. tt) same-length returns)

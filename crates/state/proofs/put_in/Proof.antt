@@ -9,12 +9,6 @@ use Rattle.state.proofs.Cells.{put-inside, put-outside}
 use Rattle.state.proofs.put_in.Statement.{statement}
 use Rattle.state.proofs.put_in.Tie as tie
 
-cell-of-requires : tie.Need-cell-of-requires
-cell-of-requires c κs = tt
-
-write-requires : tie.Need-write-requires
-write-requires c κs = tt
-
 same-length : tie.Need-same-length
 same-length c = search needs
 
@@ -28,4 +22,4 @@ returns-2 : tie.Need-returns-2
 returns-2 c = sym (put-outside _ _ _ _ (c .if1 .left))
 
 pub put-in-spec : {M : Type 1} → statement M
-put-in-spec = tie.close (tie.spec cell-of-requires write-requires same-length returns returns-2)
+put-in-spec = tie.close (tie.spec (λ c κs. tt) (λ c κs. tt) same-length returns returns-2)

@@ -8,21 +8,18 @@ use borrow.Author.Needs.{needs}
 use denote.Ref.{now}
 use lib.ListN.{length, drop, set}
 use Rattle.lines.specs.Lines.{firstLineOf}
-use Rattle.machine.specs.Step.{outcomeOf}
-use Rattle.machine.specs.declared.Outcome.{Outcome}
+use Rattle.state.specs.Site.{Verdict, verdict}
+use Rattle.state.specs.Stands.{site}
 use Rattle.sessions.specs.Session.{obeyed}
 use Rattle.transcript.proofs.Session.{Reached, reached-none, reached-more, reached-all, part-from, line-room, first-takes}
 use Rattle.transcript.proofs.obey_lines.Statement.{statement}
 use Rattle.transcript.proofs.obey_lines.Tie as tie
 
 abbrev Inv-loop : tie.InvT-loop
-Inv-loop input results₀ s₀ lines₀ at₀ results s lines at = Reached (length results₀) input results lines at s
+Inv-loop input results₀ s₀ lines₀ at₀ results s lines at = Reached (length results₀) input results lines at (site s)
 
 abbrev μ-loop : tie.MeasureT-loop
 μ-loop input results₀ s₀ lines₀ at₀ results s lines at = length input - at
-
-founding-requires : tie.Need-founding-requires Inv-loop μ-loop
-founding-requires c κs = tt
 
 loop-holds : tie.Need-loop-holds Inv-loop μ-loop
 loop-holds c = reached-none _ _ _ (c .founding .ensures) (c .before .before .before .pre)
@@ -35,9 +32,6 @@ part-first-line-start c = omega arith
 
 part-first-line-end : tie.Need-part-first-line-end Inv-loop μ-loop
 part-first-line-end c = omega arith
-
-first-line-requires : tie.Need-first-line-requires Inv-loop μ-loop
-first-line-requires c κs = tt
 
 enum-told : tie.Need-enum-told Inv-loop μ-loop
 enum-told c = search needs
@@ -65,9 +59,6 @@ slice-write-results c = room (c .before .before)
 enum-known-line : tie.Need-enum-known-line Inv-loop μ-loop
 enum-known-line c = search needs
 
-step-requires : tie.Need-step-requires Inv-loop μ-loop
-step-requires c κs = tt
-
 slice-write-results-2 : tie.Need-slice-write-results-2 Inv-loop μ-loop
 slice-write-results-2 c = room (c .before .before .before .before)
 
@@ -92,17 +83,17 @@ module _ (c : tie.At-match-came Inv-loop μ-loop) where
   abbrev before : tie.At-loop Inv-loop μ-loop
   before = top (c .before)
 
-  turn : (o : Outcome) → o ≡ obeyed (before .loop .s) (c .before .first-line .result .line)
-      → c .match .results ≡ set (before .loop .results) (before .loop .lines) (o .refusal) → c .match .s ≡ o .state
-      → Reached (length (now (start (c .before) .args .results))) (now (start (c .before) .args .input)) (c .match .results) (before .loop .lines + 1) (before .loop .at + c .before .first-line .result .size) (c .match .s)
+  turn : (o : Verdict) → o ≡ obeyed (site (before .loop .s)) (c .before .first-line .result .line)
+      → c .match .results ≡ set (before .loop .results) (before .loop .lines) (o .refusal) → site (c .match .s) ≡ o .state
+      → Reached (length (now (start (c .before) .args .results))) (now (start (c .before) .args .input)) (c .match .results) (before .loop .lines + 1) (before .loop .at + c .before .first-line .result .size) (site (c .match .s))
   turn o = reached-more _ _ _ _ _ _ (before .loop .inv) (c .before .before .before .loop-test .taken) _ o _ _ (first (c .before))
 
 loop-again : tie.Need-loop-again Inv-loop μ-loop
 loop-again c =
-    let said = obeyed (top (c .before) .loop .s) in
+    let said = obeyed (site (top (c .before) .loop .s)) in
     ⊎-elim
-    (λ w. turn c (outcomeOf 13 (top (c .before) .loop .s)) (ap said (sym (w .1 .given .1))) (w .2) (w .3))
-    (λ w. turn c (w .3 .result) (w .3 .ensures ∙ ap said (sym (w .1 .given .1))) (w .5) (w .6))
+    (λ w. turn c (verdict 13 (site (top (c .before) .loop .s))) (ap said (sym (w .1 .given .1))) (w .2) (ap site (w .3)))
+    (λ w. turn c (verdict (w .3 .result .refusal) (site (w .3 .result .state))) (w .3 .ensures ∙ ap said (sym (w .1 .given .1))) (w .5) (ap site (w .6)))
     (c .match .came)
 
 same-length : tie.Need-same-length Inv-loop μ-loop
@@ -114,23 +105,6 @@ returns c = reached-all _ _ _ _ _ _ (c .before .loop .inv) (c .loop-test .left)
 pub obey-lines-spec : {M : Type 1} → statement M
 obey-lines-spec =
     tie.close
-    (tie.spec
-    Inv-loop
-    μ-loop
-    founding-requires
-    loop-holds
-    sub-first-line
-    part-first-line-start
-    part-first-line-end
-    first-line-requires
-    enum-told
-    slice-write-results
-    enum-known-line
-    step-requires
-    slice-write-results-2
-    add-lines
-    add-at
-    loop-less
-    loop-again
-    same-length
-    returns)
+    (tie.spec Inv-loop μ-loop (λ c κs. tt) loop-holds sub-first-line part-first-line-start part-first-line-end
+    (λ c κs. tt) enum-told slice-write-results enum-known-line (λ c κs. tt) slice-write-results-2 add-lines add-at
+    loop-less loop-again same-length returns)

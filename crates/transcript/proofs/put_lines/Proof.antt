@@ -8,7 +8,7 @@ use native.Mathlib.Omega.{arith}
 use lib.ListN.{length, getD, drop}
 use lib.Seq.{drop-cons, drop-length}
 use Rattle.transcript.specs.Transcript.{resultLine, resultLines}
-use Rattle.transcript.proofs.Placing.{Turns, Laid, laid-none, laid-more, laid-all, laid-room, placed-length}
+use Rattle.output.proofs.Placing.{Turns, LaidTo, turns-none, turns-more, turns-all, placed-length}
 use Rattle.transcript.proofs.put_lines.Statement.{statement}
 use Rattle.transcript.proofs.put_lines.Tie as tie
 
@@ -27,23 +27,19 @@ turns results =
     }
 
 abbrev Inv-loop : tie.InvT-loop
-Inv-loop out₀ at results end₀ i₀ i-end out end i = Laid (length results) (rest results) i at out₀ end out
+Inv-loop out₀ at results end₀ i₀ i-end out end i = LaidTo (length results) (rest results) i at out₀ end out
 
 abbrev μ-loop : tie.MeasureT-loop
 μ-loop out₀ at results end₀ i₀ i-end out end i = i-end - i
 
 loop-holds : tie.Need-loop-holds Inv-loop μ-loop
-loop-holds c = laid-none _ _ _ _
+loop-holds c = let start = c .before .before in turns-none _ _ _ _ (start .fits .at .fits) (start .good .0 .0)
 
 add-put-line : tie.Need-add-put-line Inv-loop μ-loop
 add-put-line c = omega arith
 
 shared-slice-read-put-line : tie.Need-shared-slice-read-put-line Inv-loop μ-loop
 shared-slice-read-put-line c = omega arith
-
-put-line-requires : tie.Need-put-line-requires Inv-loop μ-loop
-unfolding line
-put-line-requires c κs = laid-room _ _ _ (turns _) _ _ _ _ _ (c .before .before .before .loop .inv) (c .before .before .loop-test .taken) (c .before .before .before .before .before .before .pre)
 
 add-i : tie.Need-add-i Inv-loop μ-loop
 add-i c = omega arith
@@ -53,26 +49,19 @@ loop-less c = omega arith
 
 loop-again : tie.Need-loop-again Inv-loop μ-loop
 unfolding line
-loop-again c = laid-more _ _ _ (turns _) _ _ _ _ _ (c .before .before .before .before .before .before .loop .inv) (c .before .before .before .before .before .loop-test .taken) _ _ (c .before .before .put-line .ensures)
+loop-again c =
+    let behind = c .before .before in
+    let turn = behind .before .before .before in
+    turns-more _ _ _ (turns _) _ _ _ _ _ (turn .before .loop .inv) (turn .loop-test .taken) _ _ (behind .put-line .ensures)
 
 same-length : tie.Need-same-length Inv-loop μ-loop
 same-length c = placed-length _ _ _ _ _ (c .before .loop .inv .placed)
 
 returns : tie.Need-returns Inv-loop μ-loop
-returns c = laid-all _ _ _ (turns _) _ _ _ _ _ (c .before .loop .inv) (c .loop-test .left)
+returns c = turns-all _ _ _ (turns _) _ _ _ _ _ (c .before .loop .inv) (c .loop-test .left)
 
 pub put-lines-spec : {M : Type 1} → statement M
 put-lines-spec =
     tie.close
-    (tie.spec
-    Inv-loop
-    μ-loop
-    loop-holds
-    add-put-line
-    shared-slice-read-put-line
-    put-line-requires
-    add-i
-    loop-less
-    loop-again
-    same-length
-    returns)
+    (tie.spec Inv-loop μ-loop loop-holds add-put-line shared-slice-read-put-line (λ c κs. tt) add-i loop-less
+    loop-again same-length returns)

@@ -22,9 +22,6 @@ abbrev μ-loop : tie.MeasureT-loop
 abbrev objectTest : tie.Start Inv-loop μ-loop → ℕ → Bool
 objectTest c = objectReached (now (c .args .definitions)) (now (c .args .structure)) (now (c .args .imports)) (now (c .args .exports))
 
-transposed-requires : tie.Need-transposed-requires Inv-loop μ-loop
-transposed-requires c κs = tt
-
 loop-holds : tie.Need-loop-holds Inv-loop μ-loop
 loop-holds c = (omega arith, each-none _)
 
@@ -57,14 +54,5 @@ returns-2 c =
 pub objects-reached-spec : {M : Type 1} → statement M
 objects-reached-spec =
     tie.close
-    (tie.spec
-    Inv-loop
-    μ-loop
-    transposed-requires
-    loop-holds
-    object-reached-requires
-    returns
-    add-o
-    loop-less
-    loop-again
+    (tie.spec Inv-loop μ-loop (λ c κs. tt) loop-holds object-reached-requires returns add-o loop-less loop-again
     returns-2)

@@ -1,0 +1,85 @@
+// What is read of a record, whatever it holds: what the checks of an instruction ask about, and single questions.
+ghost use mathlib.Core.Path.{_≡_};
+ghost use mathlib.Core.Bool.{_&&_};
+ghost use Rattle.state.specs.Site.{user, area, object, owner, listed, cells};
+ghost use Rattle.state.specs.Stands.{site};
+ghost use Rattle.state.specs.Walk.{hasFirst, hasSecond};
+ghost use Rattle.readings.specs.Readings.{seenOf, namesArea};
+use state::State;
+
+// What the checks of an instruction (activator, a, b) read of the record that is given.
+pub struct Seen {
+    // the activator is listed
+    pub activator: bool,
+    // a is listed as an area
+    pub area: bool,
+    // b is listed as a user, as an area, as an object
+    pub user: bool,
+    pub outer: bool,
+    pub object: bool,
+    // the activator owns area a, owns area b
+    pub own: bool,
+    pub other: bool,
+    // user b owns area a
+    pub owned: bool,
+    // object b is defined in area a
+    pub defined: bool,
+    // area a lies in area b
+    pub inside: bool,
+    // object b is imported, is exported by area a
+    pub imported: bool,
+    pub exported: bool,
+}
+
+// What those checks read: all of it at once, whatever the instruction.
+pub fn look(s: State, u: u8, a: u8, b: u8) -> Seen
+    ensures { λ r. ⌜ r ≡ seenOf (site s) u a b ⌝ }
+{
+    Seen {
+        activator: state::is_member(&s.users, u),
+        area: state::is_member(&s.areas, a),
+        user: state::is_member(&s.users, b),
+        outer: state::is_member(&s.areas, b),
+        object: state::is_member(&s.objects, b),
+        own: state::is_pair(&s.owners, u, a),
+        other: state::is_pair(&s.owners, u, b),
+        owned: state::is_pair(&s.owners, b, a),
+        defined: state::is_pair(&s.definitions, b, a),
+        inside: state::is_pair(&s.structure, a, b),
+        imported: state::is_pair(&s.imports, b, a),
+        exported: state::is_pair(&s.exports, b, a),
+    }
+}
+
+// Is the user listed, and does he own an area?
+pub fn is_owner(s: State, u: u8) -> bool
+    ensures { λ r. ⌜ r ≡ (listed (site s) user u && hasFirst (cells (site s) owner) u) ⌝ }
+{
+    state::is_member(&s.users, u) & rows::in_row(&s.owners, u)
+}
+
+// Are area a and object b listed?
+pub fn are_listed(s: State, a: u8, b: u8) -> bool
+    ensures { λ r. ⌜ r ≡ (listed (site s) area a && listed (site s) object b) ⌝ }
+{
+    state::is_member(&s.areas, a) & state::is_member(&s.objects, b)
+}
+
+// Has the area an owner?
+pub fn is_owned(s: State, a: u8) -> bool
+    ensures { λ r. ⌜ r ≡ hasSecond (cells (site s) owner) a ⌝ }
+{
+    rows::in_column(&s.owners, a)
+}
+
+// Is there a pair that names the area?
+pub fn names_area(s: State, number: u8) -> bool
+    ensures { λ r. ⌜ r ≡ namesArea (site s) number ⌝ }
+{
+    rows::in_column(&s.owners, number)
+        | rows::in_column(&s.definitions, number)
+        | rows::in_row(&s.structure, number)
+        | rows::in_column(&s.structure, number)
+        | rows::in_column(&s.imports, number)
+        | rows::in_column(&s.exports, number)
+}

@@ -1,0 +1,17 @@
+-- `updates::with_area` meets its contract.
+-- Assumes nothing.
+use Rattle.state.specs.Site.{siteOf}
+use Rattle.state.specs.Stands.{site}
+use Rattle.updates.proofs.with_area.Statement.{statement}
+use Rattle.updates.proofs.with_area.Tie as tie
+
+returns : tie.Need-returns
+unfolding site
+returns c =
+    let s = c .before .before .args .t1 in λ i.
+    siteOf
+    (s .users) (c .mark-32 .ensures i) (s .objects) (s .owners) (s .definitions) (s .structure) (s .imports)
+    (s .exports)
+
+pub with-area-spec : {M : Type 1} → statement M
+with-area-spec = tie.close (tie.spec (λ c κs. tt) returns)

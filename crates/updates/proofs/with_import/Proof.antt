@@ -1,0 +1,17 @@
+-- `updates::with_import` meets its contract.
+-- Assumes nothing.
+use Rattle.state.specs.Site.{siteOf}
+use Rattle.state.specs.Stands.{site}
+use Rattle.updates.proofs.with_import.Statement.{statement}
+use Rattle.updates.proofs.with_import.Tie as tie
+
+returns : tie.Need-returns
+unfolding site
+returns c =
+    let s = c .before .before .args .t1 in λ i.
+    siteOf
+    (s .users) (s .areas) (s .objects) (s .owners) (s .definitions) (s .structure) (c .put-64 .ensures i) (s
+    .exports)
+
+pub with-import-spec : {M : Type 1} → statement M
+with-import-spec = tie.close (tie.spec (λ c κs. tt) returns)

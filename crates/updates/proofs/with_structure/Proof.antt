@@ -1,0 +1,17 @@
+-- `updates::with_structure` meets its contract.
+-- Assumes nothing.
+use Rattle.state.specs.Site.{siteOf}
+use Rattle.state.specs.Stands.{site}
+use Rattle.updates.proofs.with_structure.Statement.{statement}
+use Rattle.updates.proofs.with_structure.Tie as tie
+
+returns : tie.Need-returns
+unfolding site
+returns c =
+    let s = c .before .before .args .t1 in λ i.
+    siteOf
+    (s .users) (s .areas) (s .objects) (s .owners) (s .definitions) (c .put-32 .ensures i) (s .imports) (s
+    .exports)
+
+pub with-structure-spec : {M : Type 1} → statement M
+with-structure-spec = tie.close (tie.spec (λ c κs. tt) returns)
