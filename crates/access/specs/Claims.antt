@@ -45,7 +45,8 @@ DefinerInNoStep = (l : Lending) (a : ℕ) → a < limit area → T (l .definedIn
 abbrev pub NeverAbove : Type 0
 NeverAbove = (l : Lending) (a n : ℕ) → answer l a ≡ Steps n → n ≤ 31
 
--- 'No access' means that no chain of any length leads to the area. This claim and the next rest on the limit of 31.
+-- 'No access' means that no chain of any length leads to the area. This claim and the next hold because the limit is
+-- 31: there are 32 areas, so a shortest chain has no more steps (Laws, ShortChains).
 abbrev pub NoAccessIsNoChain : Type 0
 NoAccessIsNoChain = (l : Lending) (a : ℕ) → answer l a ≡ NoAccess → (n : ℕ) → ObjectChain l n a → ⊥
 

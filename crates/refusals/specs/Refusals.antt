@@ -1,7 +1,7 @@
 -- The refusals of an instruction (document 01, 'Refusals of an instruction'): each condition with the paper's words,
--- and the table in the paper's order. 1 and 2 are the decoder's (instructions, Decode). The early ones depend on the row
--- of the instruction and on what is read of the state (readings, `seenOf`), the late ones on the state and what it would
--- become.
+-- and the table in the paper's order. 1 and 2 are the decoder's (instructions, Decode). The early ones depend on the
+-- row of the instruction and on what is read of the state (readings, `seenOf`), the late ones on the state and what it
+-- would become.
 use Prim.Native.Nat.{ℕ}
 use mathlib.Core.Bool.{Bool, true, false, _&&_, _||_, not}
 use mathlib.Core.List.{List, [], _∷_, _++_}
@@ -48,6 +48,7 @@ missing v t Both = not (v .area && bListed v t)
 abbrev pub mayCut : Seen → Bool
 mayCut v = v .own || v .other
 
+-- `other` is asked where b is an area: the table has "both" and "either" for structure pairs alone
 abbrev pub entitled : Seen → MustOwn → Bool
 entitled v OwnsNothing = true
 entitled v OwnsA = v .own

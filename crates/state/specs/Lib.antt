@@ -1,5 +1,5 @@
 -- What a reader of this crate believes: how a set and a relation are kept (Cells), the state with its readings and
--- updates (Site), the state that a record of the code stands for (Stands: `site`, in nearly every contract), tests of
+-- updates (Site), the state that a record of the code stands for (Stands: `site`, in nearly every contract, with the claim NothingLost), tests of
 -- all that a set or a relation holds (Walk), and what is claimed of them (Laws). The claims are proved in
 -- proofs/Laws.antt. Three files serve the crates above: the list of a function's values (Tabulate), tests of the
 -- numbers below a bound (Below), and a table of refusals with the first number whose condition is met (Checks, with the
