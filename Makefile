@@ -15,7 +15,7 @@ lib:
 	@cmp -s target/staticlib/libcapi.a target/lib/libpanelrights.a || \
 		cp target/staticlib/libcapi.a target/lib/libpanelrights.a
 
-# The file VERSION has the project's version, which moves when the record or a prototype does.
+# The file VERSION has the project's version: docs/DECISIONS.md (66) says when it moves.
 install: lib
 	@sed -e 's|@PREFIX@|$(PREFIX)|' -e "s|@VERSION@|$$(cat VERSION)|" panelrights.pc.in >target/lib/panelrights.pc
 	install -d '$(DESTDIR)$(PREFIX)/include' '$(DESTDIR)$(PREFIX)/lib/pkgconfig'

@@ -42,8 +42,9 @@ static const char *const words[] = {
         "The site file names an area that has no owner or a table that is stored nowhere, stores a table "
         "in two areas, or has no owner at all. Correct the entry and save the site anew.",
     [PANELRIGHTS_FILE_LACKS_ACCESS] =
-        "The site file has an area that imports or exports a table which does not reach it. Take out that "
-        "import or export, or enter what leads the table there, and save the site anew.",
+        "The site file has an area that imports or exports a table which does not reach it, or only over "
+        "more than 8 steps. In the program that wrote the file, take out that import or export or enter a "
+        "way of at most 8 steps, and save the site anew.",
 };
 
 /* The area with its label, if it has one. */

@@ -20,12 +20,12 @@
  * a number is listed or not. A user owns areas, an area defines objects, and an area may lie in others.
  * An object moves one step outward, from an area that exports it to an area that this one lies in; or one
  * step inward, from an area to one that lies in it and imports the object. An area has access to an object
- * if it defines it, or if a chain of steps leads there from the area that does; then it sees the object. It
- * lends an object by exporting it, and borrows one by importing it. Areas may lie in each other in a ring,
- * or in themselves, and an area may import what it defines.
+ * if it defines it, or if a chain of at most 8 steps leads there from the area that does; then it sees the
+ * object. It lends an object by exporting it, and borrows one by importing it. Areas may lie in each other
+ * in a ring, or in themselves, and an area may import what it defines.
  * A state is sound if whatever it names is listed, each listed user owns an area, each listed area has an
  * owner, each listed object is defined in exactly one area, there is an area, and each area has access to
- * what it imports or exports. From a sound state every step leads to a sound one.
+ * what it imports or exports. From a sound state every instruction leads to a sound one.
  *
  * The library does not know who calls it: that the activator is who he says is your program's business.
  */
@@ -43,6 +43,7 @@ enum {
     PANELRIGHTS_USERS = 32,
     PANELRIGHTS_AREAS = 32,
     PANELRIGHTS_OBJECTS = 64,
+    PANELRIGHTS_MOST_STEPS = 8,    /* an object may be lent across at most so many steps */
     PANELRIGHTS_STATE_BYTES = 8320 /* what panelrights_state_bytes() gives, for an array's length */
 };
 
@@ -170,9 +171,10 @@ enum { PANELRIGHTS_NO_ACCESS = 255, PANELRIGHTS_ACCESS_REFUSED = 256 };
 
 /*
  * In how many steps does the object reach the area? (Here the area comes first.) The number of steps in a
- * shortest chain from the area that defines it: 0 for that area itself, and never above 31. 255 for no
- * access; 256 + n for refusal n, which is 12, 2 or 4. Any area above 31 and any object above 63 is refusal
- * 2: 256 is no area, and not area 0. Keep the answer in 16 bits: in 8, refusal 12 would read as 12 steps.
+ * shortest chain from the area that defines it: 0 for that area itself, and never above 8: where every
+ * chain has more steps there is no access. 255 for no access; 256 + n for refusal n, which is 12, 2 or 4.
+ * Any area above 31 and any object above 63 is refusal 2: 256 is no area, and not area 0. Keep the answer in
+ * 16 bits: in 8, refusal 4 would read as 4 steps.
  */
 uint16_t panelrights_access(const uint8_t *state, size_t state_len, uint32_t area, uint32_t object);
 
@@ -180,7 +182,8 @@ uint16_t panelrights_access(const uint8_t *state, size_t state_len, uint32_t are
  * Reads a site file. 0, and the record is that of the file's state; or the refusal, 21 to 29, and the
  * record is that of the founding state: what was in the buffer is gone, so read into a second one if you
  * need it. 31 and no byte written, whatever the file has, if state_len is not panelrights_state_bytes().
- * No accepted file is longer than 13,468 bytes. The library reads site files and does not write them.
+ * No accepted file is longer than 13,468 bytes. A file that version 2.0.0 of the library accepted is 29 now if
+ * an import or export in it needs more than 8 steps. The library reads site files and does not write them.
  */
 uint8_t panelrights_read_file(const uint8_t *file, size_t file_len, uint8_t *state, size_t state_len);
 

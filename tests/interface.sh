@@ -103,6 +103,14 @@ allowed=$({
 } | sort -n)
 [ "$refusals" = "$allowed" ] || fail 'the header has other refusals than stepNumbers and readNumbers'
 
+# The limit of steps is that of the definition, in the header and in the Rust package.
+longest=$(sed -n 's/^longest = //p' crates/access/specs/Answer.antt)
+[ -n "$longest" ] || fail 'crates/access/specs/Answer.antt does not say the limit of steps'
+grep -qE "^ *PANELRIGHTS_MOST_STEPS = $longest," include/panelrights.h ||
+    fail "the header's limit of steps is not $longest"
+grep -qxF "pub const MOST_STEPS: u8 = $longest;" bindings/rust/src/state.rs ||
+    fail "the Rust package's limit of steps is not $longest"
+
 printed=$(run_checks -Iinclude "$library")
 quietly g++ -std=c++11 -Wall -Wextra -Werror -pedantic -Iinclude tests/interface/header.cc "$library" -o "$work/header"
 quietly "$work/header"

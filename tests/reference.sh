@@ -1,5 +1,6 @@
 #!/usr/bin/env bash
-# Runs the tests of the second implementation: the examples of document 01, and its readings (docs/READINGS.md).
+# Runs the tests of the second implementation: the examples of document 01, what has landed of document 02, and the
+# readings (docs/READINGS.md).
 set -euo pipefail
 cd "$(dirname "$0")/.."
 log=$(mktemp)

@@ -1,5 +1,6 @@
 //! Compares the library with the two baselines. Where they differ the run stops, and says in what.
 
+use crate::borders::{self, Borders};
 use crate::random::{self, Span};
 use crate::record::{Record, RECORD_BYTES};
 use crate::rows::Rows;
@@ -98,12 +99,21 @@ struct Seen {
     questions: [u32; 5],
     /// By refusal: 0, 21 to 29.
     files: [u32; 10],
+    borders: Borders,
+    /// States with an import or export at 9 steps, refused as 12 and as 29.
+    too_far: u32,
 }
 
 impl Seen {
     fn step(&mut self, s: &Record, bytes: Bytes) -> Record {
         let (refusal, after) = step(s, bytes);
         self.steps[usize::from(refusal)] += 1;
+        if let 0 | 10 | 11 = refusal {
+            if let Some(too_far) = self.borders.step(s, bytes) {
+                let refusals = [step(&too_far, bytes).0, read(&files::file(&too_far))];
+                self.too_far += u32::from(refusals == [12, 29]);
+            }
+        }
         after
     }
 
@@ -112,6 +122,9 @@ impl Seen {
         let answer = access(s, area, object);
         let kind = OTHERS.iter().position(|&other| other == answer).map_or(0, |i| i + 1);
         self.questions[kind] += 1;
+        if let 0 | 1 = kind {
+            self.borders.question(s, area, object);
+        }
     }
 
     fn file(&mut self, file: &[u8]) {
@@ -119,22 +132,28 @@ impl Seen {
         self.files[usize::from(refusal.saturating_sub(20))] += 1;
     }
 
-    fn lines(&self) -> [String; 3] {
+    fn lines(&self) -> [String; 4] {
         let Seen {
             steps,
             questions,
             files,
+            too_far,
+            borders,
         } = self;
-        let every = [&steps[..], questions, files].concat();
-        assert!(
-            !every.contains(&0),
-            "an answer was never seen: {steps:?}, {questions:?}, {files:?}"
-        );
-        [
+        let at_borders = [borders.questions, borders.adds, borders.removals];
+        let every = [&steps[..], questions, files, &[*too_far], at_borders.as_flattened()].concat();
+        let lines = [
             format!("agree: instructions answered 0 to 12: {steps:?}"),
             format!("agree: questions answered by steps, no access, 12, 2, 4: {questions:?}"),
             format!("agree: files answered 0, 21 to 29: {files:?}"),
-        ]
+            format!(
+                "agree: at 8 and 9 steps: questions {:?}, imports and exports {:?}, removes {:?}; \
+                 states refused for 9: {too_far}",
+                borders.questions, borders.adds, borders.removals
+            ),
+        ];
+        assert!(!every.contains(&0), "an answer was never seen: {lines:#?}");
+        lines
     }
 
     /// A question within the span, at times one out of all range; at times the state's file, and that file damaged.
@@ -150,11 +169,28 @@ impl Seen {
             self.file(&random::damaged_file(chance, file));
         }
     }
+
+    /// Circles of areas: every cut, every import and export and the removal of each, every question, and the file.
+    fn circles(&mut self) {
+        for areas in 9..=24 {
+            let s = borders::circle(areas.into());
+            self.file(&files::file(&s));
+            for area in 0..areas {
+                self.step(&s, [6, 0, area, (area + 1) % areas]);
+                for object in 0..2 {
+                    self.question(&s, [area.into(), object.into()]);
+                    for code in 9..=12 {
+                        self.step(&s, [code, 0, area, object]);
+                    }
+                }
+            }
+        }
+    }
 }
 
 /// Walks of random instructions from the founding state, over few numbers and over all; on the way damaged records, the
-/// access question and files. Gives lines on what was seen.
-pub fn compare(count: u32) -> [String; 3] {
+/// access question and files. Then the circles. Gives lines on what was seen.
+pub fn compare(count: u32) -> [String; 4] {
     const SPANS: [Span; 5] = [[2, 2, 1], [3, 3, 2], [4, 6, 3], [8, 12, 8], random::WHOLE];
     let mut chance = Chance::new(2);
     let mut seen = Seen::default();
@@ -176,5 +212,6 @@ pub fn compare(count: u32) -> [String; 3] {
         s = seen.step(&s, bytes);
         seen.state(&mut chance, &s, span);
     }
+    seen.circles();
     seen.lines()
 }

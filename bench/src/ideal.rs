@@ -2,7 +2,7 @@
 //! number of 32 bits, so a search takes all neighbours of an area at once.
 
 use crate::rows::{holds, Rows};
-use crate::rules::{self, Bytes, Instruction, AREAS, NO_ACCESS, OBJECTS, REFUSED, USERS};
+use crate::rules::{self, Bytes, Instruction, AREAS, MOST_STEPS, NO_ACCESS, OBJECTS, REFUSED, USERS};
 
 /// The relation with each pair turned round: blocks of 16, 8, 4, 2 and 1 change places across the diagonal.
 fn turned(rows: &[u32; AREAS]) -> [u32; AREAS] {
@@ -40,18 +40,28 @@ impl Moves<'_> {
         exported | self.s.imports[object] & self.turned[area]
     }
 
-    /// Has each area of the set access to the object?
+    /// Where it moves in one step from the areas of the set.
+    fn step(&self, object: usize, mut areas: u32) -> u32 {
+        let mut to = 0;
+        while areas != 0 {
+            to |= self.from(object, areas.trailing_zeros() as usize);
+            areas &= areas - 1;
+        }
+        to
+    }
+
+    /// Has each area of the set access to the object? Layer by layer, up to the limit.
     fn reach(&self, object: usize, wanted: u32) -> bool {
-        let mut reached = self.s.definitions[object];
-        let mut open = reached;
+        let mut layer = self.s.definitions[object];
+        let mut reached = layer;
+        let mut count = 0;
         while wanted & !reached != 0 {
-            if open == 0 {
+            if layer == 0 || count == MOST_STEPS {
                 return false;
             }
-            let area = open.trailing_zeros() as usize;
-            let found = self.from(object, area) & !reached;
-            reached |= found;
-            open = open & (open - 1) | found;
+            layer = self.step(object, layer) & !reached;
+            reached |= layer;
+            count += 1;
         }
         true
     }
@@ -65,21 +75,16 @@ impl Moves<'_> {
         (0..OBJECTS).all(|o| self.reach_entries(o))
     }
 
-    /// The number of steps in a shortest chain, layer by layer.
+    /// The number of steps in a shortest chain, in the same way.
     fn steps(&self, object: usize, area: usize) -> u8 {
         let mut layer = self.s.definitions[object];
         let mut reached = layer;
         let mut count = 0;
         while !holds(layer, area) {
-            if layer == 0 {
+            if layer == 0 || count == MOST_STEPS {
                 return NO_ACCESS;
             }
-            let mut next = 0;
-            while layer != 0 {
-                next |= self.from(object, layer.trailing_zeros() as usize);
-                layer &= layer - 1;
-            }
-            layer = next & !reached;
+            layer = self.step(object, layer) & !reached;
             reached |= layer;
             count += 1;
         }

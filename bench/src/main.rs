@@ -5,6 +5,7 @@
 #![deny(unsafe_code)]
 
 mod agree;
+mod borders;
 mod files;
 mod ideal;
 mod ideal_reader;

@@ -5,6 +5,9 @@ pub const USERS: usize = 32;
 pub const AREAS: usize = 32;
 pub const OBJECTS: usize = 64;
 
+/// "a table may be lent across at most 8 steps": document 02, point 2.
+pub const MOST_STEPS: u8 = 8;
+
 /// The answer "no access", and what is added to a refusal of the access question: both as the C interface has them.
 pub const NO_ACCESS: u8 = 255;
 pub const REFUSED: u16 = 256;

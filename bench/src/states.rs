@@ -3,7 +3,7 @@
 use crate::plain;
 use crate::random;
 use crate::record::{cell, Record};
-use crate::rules::{Bytes, AREAS, OBJECTS};
+use crate::rules::{Bytes, AREAS, MOST_STEPS, OBJECTS};
 use chance::Chance;
 
 pub struct States {
@@ -55,18 +55,25 @@ fn dense() -> Record {
     s
 }
 
-/// Area a lies in area a + 1. Even objects go outward from area 0 by exports, odd ones inward from area 31 by imports.
+/// Area a lies in area a + 1. Each object goes along 8 steps: even ones outward by exports, odd ones inward by imports.
+/// The first objects start at the ends of the row, the next ones beside them, up to the areas that are 8 steps short of
+/// the other end.
 fn chain() -> Record {
+    let steps = usize::from(MOST_STEPS);
     let mut s = full();
     s.definitions.fill(false);
-    for o in 0..OBJECTS {
-        s.definitions[cell(o, if o % 2 == 0 { 0 } else { 31 })] = true;
-    }
-    for a in 0..31 {
+    for a in 0..AREAS - 1 {
         s.structure[cell(a, a + 1)] = true;
-        for o in 0..OBJECTS {
-            let pairs = if o % 2 == 0 { &mut s.exports } else { &mut s.imports };
-            pairs[cell(o, a)] = true;
+    }
+    for o in 0..OBJECTS {
+        let start = o / 2 % (AREAS - steps);
+        if o % 2 == 0 {
+            s.definitions[cell(o, start)] = true;
+            (start..start + steps).for_each(|a| s.exports[cell(o, a)] = true);
+        } else {
+            let start = AREAS - 1 - start;
+            s.definitions[cell(o, start)] = true;
+            (start - steps..start).for_each(|a| s.imports[cell(o, a)] = true);
         }
     }
     s

@@ -1,9 +1,13 @@
 //! "The access rule is a layer by itself, and the machine, the reader and every tool use it through its promise only."
 //!
-//! The promise: [`shortest_chain`] is the least number of steps from the defining area, or `None` where no chain leads.
+//! The promise: [`shortest_chain`] is the least number of steps from the defining area, or `None` where no chain of
+//! [`MOST_STEPS`] steps or fewer leads.
 
 use crate::state::{beside, firsts, State};
 use std::collections::{BTreeMap, BTreeSet};
+
+/// Document 02, point 2: "The product committee has ruled that a table may be lent across at most 8 steps."
+const MOST_STEPS: u8 = 8;
 
 /// "An object moves one *step* from s to r in two cases." The r of both cases, for the object and one s, as far as they are in `among`.
 fn steps_from<'a>(state: &'a State, object: u8, s: u8, among: &'a BTreeSet<u8>) -> impl Iterator<Item = u8> + 'a {
@@ -24,6 +28,7 @@ fn imported_from<'a>(state: &'a State, object: u8, s: u8, among: &'a BTreeSet<u8
 }
 
 /// "An area has *access* to an object if it defines it or a chain of steps leads to it from the defining area."
+/// Document 02, point 2: "Access now means a chain of 8 steps or fewer, everywhere: the question, imports, removals and files."
 ///
 /// Breadth first: each area with access, with "the number of steps in a shortest chain, 0 for the defining area".
 fn reach(state: &State, object: u8) -> BTreeMap<u8, u8> {
@@ -31,7 +36,7 @@ fn reach(state: &State, object: u8) -> BTreeMap<u8, u8> {
     let mut unreached: BTreeSet<u8> = (0..State::AREAS).collect();
     let mut layer: BTreeSet<u8> = beside(&state.definitions, object).collect();
     let mut steps = 0;
-    while !layer.is_empty() {
+    while !layer.is_empty() && steps <= MOST_STEPS {
         reached.extend(layer.iter().map(|&area| (area, steps)));
         unreached.retain(|area| !layer.contains(area));
         if unreached.is_empty() {
@@ -43,7 +48,8 @@ fn reach(state: &State, object: u8) -> BTreeMap<u8, u8> {
     reached
 }
 
-/// "the number of steps in a shortest chain, 0 for the defining area and never above 31, or 'no access'"
+/// "the number of steps in a shortest chain, 0 for the defining area", or "no access".
+/// Document 02, point 2: "The step answer never passes 8."
 pub(crate) fn shortest_chain(state: &State, area: u8, object: u8) -> Option<u8> {
     reach(state, object).get(&area).copied()
 }

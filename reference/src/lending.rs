@@ -1,4 +1,6 @@
 //! The lending guarantee: "What demand 3 says of an area whose owners at the start activate nothing in the list".
+//!
+//! Document 02, point 2: "The guarantee that borrowed tables stay now speaks of chains within that limit."
 
 use crate::access::shortest_chain;
 use crate::state::{before, State};
@@ -38,6 +40,7 @@ fn same_set(kind: &str, start: &BTreeSet<(u8, u8)>, end: &BTreeSet<(u8, u8)>, ar
 }
 
 /// "An object can be traced to an area if, in the state after the list, the area has access to it."
+/// Document 02, point 2: "Access now means a chain of 8 steps or fewer".
 fn is_traced(verb: &str, start: &BTreeSet<(u8, u8)>, after: &State, area: u8) -> Result<(), String> {
     let objects = before(start, area);
     match objects.into_iter().find(|&object| shortest_chain(after, area, object).is_none()) {

@@ -1,7 +1,8 @@
-//! The site access state machine of document 01, written a second time: sets of pairs instead of arrays of cells.
+//! The site access state machine of document 01, with point 2 of document 02, written a second time: sets of pairs instead of
+//! arrays of cells.
 //!
-//! Each module follows one section of document 01, and each function quotes the sentence that it stands for.
-//! docs/READINGS.md says how open places of document 01 are read.
+//! Each module follows one section of document 01, and each function quotes the sentence that it stands for; it is document 01's
+//! where no other document is named. docs/READINGS.md says how open places of both documents are read.
 
 #![forbid(unsafe_code)]
 #![warn(missing_docs)]

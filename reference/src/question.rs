@@ -3,8 +3,10 @@
 use crate::access::shortest_chain;
 use crate::state::State;
 
-/// "For area a and object b the answer is the number of steps in a shortest chain, 0 for the defining area and never above 31, or
-/// 'no access'. Refusals 12, 2, 4 apply in that order, with the same conditions for a and b."
+/// "For area a and object b the answer is the number of steps in a shortest chain, 0 for the defining area", or "no access".
+/// Document 02, point 2: "The step answer never passes 8."
+///
+/// "Refusals 12, 2, 4 apply in that order, with the same conditions for a and b."
 pub fn access(state: &State, area: u32, object: u32) -> Result<Option<u8>, u8> {
     if !state.is_sound() {
         return Err(12);

@@ -168,6 +168,7 @@ fn file_is_inconsistent(file: &[u8]) -> bool {
 }
 
 /// 29: "an import or export pair whose area lacks access"
+/// Document 02, point 2: "A file whose import or export needs more gets 29."
 fn entry_lacks_access(file: &[u8]) -> bool {
     !is_valid(&state_of(file))
 }

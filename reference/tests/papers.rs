@@ -1,4 +1,4 @@
-//! The examples of document 01, and the readings 1 to 11 of docs/READINGS.md.
+//! The examples of document 01, point 2 of document 02, and the readings 1 to 12 of docs/READINGS.md.
 
 use reference::*;
 use std::collections::{BTreeMap, BTreeSet};
@@ -483,26 +483,13 @@ fn export_goes_outwards_and_import_inwards() {
     refused(&inner_outer, [9, 0, 1, 9], 10); // an import by the outer brings nothing
 }
 
-#[test]
-fn chain_of_31_steps_and_the_shortest_of_two() {
-    let mut list: Vec<[u8; 4]> = vec![[7, 0, 0, 9]];
-    for area in 1..=31 {
-        list.extend([[1, 0, area, 0], [5, 0, area, area - 1], [9, 0, area, 9]]);
-    }
-    let line = from_f(&list);
-    for area in 0..=31 {
-        assert_eq!(access(&line, area.into(), 9), Ok(Some(area)));
-    }
-    refused(&list, [10, 0, 1, 9], 11); // the lost pairs are many steps off
-    refused(&list, [6, 0, 2, 1], 11);
-    accepted(&list, [10, 0, 31, 9]);
-    let shortcut = accepted(&list, [5, 0, 31, 0]);
-    assert_eq!(access(&shortcut, 31, 9), Ok(Some(1)));
-    assert_eq!(access(&shortcut, 30, 9), Ok(Some(30)));
+/// The least chain length by the definition of a step alone, however long it is.
+fn least_chain(state: &State, area: u8, object: u8) -> Option<u8> {
+    least_chains(state, object).get(&area).copied()
 }
 
-/// The least chain length by the definition of a step alone: no search, but every pair of areas tried until nothing changes.
-fn least_chain(state: &State, area: u8, object: u8) -> Option<u8> {
+/// The same for each area to which a chain leads: no search, but every pair of areas tried until nothing changes, and no limit.
+fn least_chains(state: &State, object: u8) -> BTreeMap<u8, u8> {
     let is_step = |s: u8, r: u8| {
         let export = state.exports.contains(&(object, s)) && state.structure.contains(&(s, r));
         let import = state.imports.contains(&(object, r)) && state.structure.contains(&(r, s));
@@ -523,7 +510,7 @@ fn least_chain(state: &State, area: u8, object: u8) -> Option<u8> {
             }
         }
         if least == known {
-            return least.get(&area).copied();
+            return least;
         }
     }
 }
@@ -1042,6 +1029,507 @@ fn reading_11_longest_input() {
     assert_eq!(transcript(&[&most[..], b"\n"].concat()), b"too long\n");
     assert_eq!(transcript(&[b'x'; 65_537]), b"too long\n");
     assert_eq!(transcript(&[b'x'; 65_536]), b"1 13\nstate 1 1 0 1 0 0 0\n");
+}
+
+// Document 02, point 2: at most eight borders
+
+/// Areas 0 to 31 of user 0 in a row, each in the one before it. Object 9 is defined in area 0 and imported by areas 1 to `last`.
+fn row_by_imports(last: u8) -> Vec<[u8; 4]> {
+    let mut list = vec![[7, 0, 0, 9]];
+    list.extend((1..=31).flat_map(|area| [[1, 0, area, 0], [5, 0, area, area - 1]]));
+    list.extend((1..=last).map(|area| [9, 0, area, 9]));
+    list
+}
+
+/// Areas 0 to 31 of user 0 in a row, each in the one behind it. Object 9 is defined in area 0 and exported by areas 0 to `last`.
+fn row_by_exports(last: u8) -> Vec<[u8; 4]> {
+    let mut list = vec![[7, 0, 0, 9]];
+    list.extend((1..=31).flat_map(|area| [[1, 0, area, 0], [5, 0, area - 1, area]]));
+    list.extend((0..=last).map(|area| [11, 0, area, 9]));
+    list
+}
+
+/// The list with more behind it.
+fn and(list: Vec<[u8; 4]>, more: &[[u8; 4]]) -> Vec<[u8; 4]> {
+    [&list[..], more].concat()
+}
+
+/// The answer for the area and object 9 after the accepted list.
+fn answer(list: &[[u8; 4]], area: u32) -> Option<u8> {
+    access(&from_f(list), area, 9).expect("an answer")
+}
+
+/// Document 02, point 2: "The step answer never passes 8."
+#[test]
+fn step_answer_is_0_to_8_along_a_row_and_none_behind() {
+    for row in [row_by_imports(8), row_by_exports(7), row_by_exports(8)] {
+        let state = from_f(&row);
+        for (area, steps) in [(0, 0), (1, 1), (2, 2), (3, 3), (4, 4), (5, 5), (6, 6), (7, 7), (8, 8)] {
+            assert_eq!(access(&state, area, 9), Ok(Some(steps)));
+        }
+        for area in 9..=31 {
+            assert_eq!(access(&state, area, 9), Ok(None));
+        }
+    }
+    // in turns: from an even area outwards by its export, from an odd one inwards by an import
+    let mut turns = vec![[7, 0, 0, 9]];
+    turns.extend((1..=10).map(|area| [1, 0, area, 0]));
+    for inner in [0, 2, 4, 6, 8] {
+        turns.extend([[5, 0, inner, inner + 1], [5, 0, inner + 2, inner + 1]]);
+    }
+    for (export, import) in [(0, 2), (2, 4), (4, 6), (6, 8)] {
+        turns.extend([[11, 0, export, 9], [9, 0, import, 9]]);
+    }
+    turns.push([11, 0, 8, 9]);
+    for (area, steps) in [(1, 1), (2, 2), (3, 3), (4, 4), (5, 5), (6, 6), (7, 7), (8, 8)] {
+        assert_eq!(answer(&turns, area), Some(steps));
+    }
+    assert_eq!(least_chain(&from_f(&turns), 9, 9), Some(9));
+    assert_eq!((answer(&turns, 9), answer(&turns, 10)), (None, None));
+    refused(&turns, [9, 0, 10, 9], 10);
+}
+
+/// Document 02, point 2: "a table may be lent across at most 8 steps", each from the area that defines it.
+#[test]
+fn reading_12_steps_are_counted_for_each_object_from_its_own_definer() {
+    let mut list = and(row_by_imports(8), &[[7, 0, 4, 8]]);
+    list.extend((5..=12).map(|area| [9, 0, area, 8]));
+    let state = from_f(&list);
+    for (area, of_9, of_8) in [
+        (3, Some(3), None),
+        (4, Some(4), Some(0)),
+        (8, Some(8), Some(4)),
+        (9, None, Some(5)),
+        (12, None, Some(8)),
+        (13, None, None),
+    ] {
+        assert_eq!((access(&state, area, 9), access(&state, area, 8)), (Ok(of_9), Ok(of_8)));
+    }
+    // the entries of one object are too far off, those of the other are not
+    refused(&list, [9, 0, 9, 9], 10);
+    refused(&list, [9, 0, 13, 8], 10);
+    refused(&list, [10, 0, 7, 9], 11);
+    refused(&list, [10, 0, 11, 8], 11);
+    is_12_for_all(&with_import(&state, 9));
+    let mut of_8_at_13 = state;
+    of_8_at_13.imports.insert((8, 13));
+    is_12_for_all(&of_8_at_13);
+}
+
+/// Reading 12: exactly 8 steps is access and 9 is none. Codes 9 and 11: "in the state it would give, a lacks access to b".
+#[test]
+fn reading_12_imports_and_exports_at_8_steps_and_at_9() {
+    assert_eq!(access(&accepted(&row_by_imports(7), [9, 0, 8, 9]), 8, 9), Ok(Some(8)));
+    accepted(&row_by_imports(8), [11, 0, 8, 9]);
+    accepted(&row_by_exports(7), [11, 0, 8, 9]);
+    accepted(&row_by_exports(7), [9, 0, 8, 9]);
+    // the import would make a chain of 9 steps
+    let mut would_give = from_f(&row_by_imports(8));
+    would_give.imports.insert((9, 9));
+    assert_eq!(least_chain(&would_give, 9, 9), Some(9));
+    refused(&row_by_imports(8), [9, 0, 9, 9], 10);
+    refused(&row_by_imports(8), [11, 0, 9, 9], 10);
+    // the export of area 8 has made one
+    assert_eq!(least_chain(&from_f(&row_by_exports(8)), 9, 9), Some(9));
+    refused(&row_by_exports(8), [11, 0, 9, 9], 10);
+    refused(&row_by_exports(8), [9, 0, 9, 9], 10);
+    for area in 10..=31 {
+        refused(&row_by_imports(8), [9, 0, area, 9], 10);
+        refused(&row_by_exports(8), [11, 0, area, 9], 10);
+    }
+}
+
+/// Reading 12 through the program: 63 lines make the row, and of the nine imports the last needs 9 steps.
+#[test]
+fn reading_12_ninth_import_of_a_row_prints_10() {
+    let mut output: String = (1..=71).map(|line| format!("{line} 0\n")).collect();
+    output.push_str("72 10\nstate 1 32 1 32 31 8 0\n");
+    assert_eq!(String::from_utf8(transcript(&lines(&row_by_imports(9)))), Ok(output));
+}
+
+/// Document 02, point 2: "a chain of 8 steps or fewer" is enough, however long others are. A short cut brings access.
+#[test]
+fn shortest_of_two_ways_counts() {
+    for (row, short_cut, last) in [
+        (row_by_imports(8), [5, 0, 2, 0], [9, 0, 9, 9]),
+        (row_by_exports(8), [5, 0, 0, 2], [11, 0, 9, 9]),
+    ] {
+        assert_eq!((answer(&row, 2), answer(&row, 8), answer(&row, 9)), (Some(2), Some(8), None));
+        refused(&row, last, 10);
+        let shorter = and(row, &[short_cut, last]);
+        assert_eq!((answer(&shorter, 1), answer(&shorter, 2)), (Some(1), Some(1)));
+        assert_eq!(
+            (answer(&shorter, 8), answer(&shorter, 9), answer(&shorter, 10)),
+            (Some(7), Some(8), None)
+        );
+    }
+    // area 9 is 9 steps off by way of area 7, and 2 by the short cut to area 8
+    let two_ways = and(row_by_imports(8), &[[5, 0, 8, 0]]);
+    assert_eq!((answer(&two_ways, 7), answer(&two_ways, 8)), (Some(7), Some(1)));
+    assert_eq!(access(&accepted(&two_ways, [9, 0, 9, 9]), 9, 9), Ok(Some(2)));
+}
+
+/// Document 02, point 2: "Access now means a chain of 8 steps or fewer, everywhere": codes 6, 8, 10 and 12 where the way is cut.
+#[test]
+fn removal_is_11_along_a_row_of_8_steps() {
+    for removal in [[6, 0, 1, 0], [6, 0, 2, 1], [6, 0, 8, 7], [8, 0, 0, 9], [10, 0, 1, 9], [10, 0, 7, 9]] {
+        refused(&row_by_imports(8), removal, 11);
+    }
+    accepted(&row_by_imports(8), [10, 0, 8, 9]);
+    accepted(&row_by_imports(8), [6, 0, 9, 8]);
+    for removal in [[6, 0, 0, 1], [6, 0, 4, 5], [6, 0, 7, 8], [8, 0, 0, 9], [12, 0, 0, 9], [12, 0, 7, 9]] {
+        refused(&row_by_exports(8), removal, 11);
+    }
+    accepted(&row_by_exports(8), [12, 0, 8, 9]);
+    accepted(&row_by_exports(8), [6, 0, 8, 9]); // area 9 has no entry
+    accepted(&row_by_imports(0), [8, 0, 0, 9]);
+}
+
+/// Document 02, point 2: "Access now means a chain of 8 steps or fewer, everywhere: the question, imports, removals and files."
+/// Without the short cut each area of the row is one step further, and only the import at its end is lost.
+#[test]
+fn removal_is_11_where_the_only_lost_pair_is_many_steps_off() {
+    let by_structure: &[[u8; 4]] = &[[5, 0, 2, 0]];
+    let by_import: &[[u8; 4]] = &[[5, 0, 20, 0], [9, 0, 20, 9], [5, 0, 3, 20]];
+    let by_export: &[[u8; 4]] = &[[5, 0, 0, 2], [11, 0, 0, 9]];
+    for (short_cut, removal) in [
+        (by_structure, [6, 0, 2, 0]),
+        (by_import, [10, 0, 20, 9]),
+        (by_import, [6, 0, 3, 20]),
+        (by_export, [12, 0, 0, 9]),
+        (by_export, [6, 0, 0, 2]),
+    ] {
+        let in_reach = and(row_by_imports(8), short_cut);
+        assert_eq!((answer(&in_reach, 3), answer(&in_reach, 8)), (Some(2), Some(7)));
+        let importing = and(in_reach.clone(), &[[9, 0, 9, 9]]);
+        assert_eq!((answer(&importing, 3), answer(&importing, 9)), (Some(2), Some(8)));
+        refused(&importing, removal, 11);
+        let next = accepted(&in_reach, removal); // area 9 has no entry to lose
+        assert_eq!((access(&next, 3, 9), access(&next, 8, 9)), (Ok(Some(3)), Ok(Some(8))));
+    }
+}
+
+/// Reading 12: exactly 8 steps is access and 9 is none. A way round of 8 steps saves the removal, one of 9 does not.
+#[test]
+fn reading_12_way_round_a_removal() {
+    // area 20 is one step from area 0, and `last`, an area of the row, is the other way to it
+    for last in [7, 8] {
+        let by_structure: &[[u8; 4]] = &[[5, 0, 20, 0], [9, 0, 20, 9], [5, 0, 20, last]];
+        let by_import: &[[u8; 4]] = &[[5, 0, 20, 0], [9, 0, 20, 9], [11, 0, 20, 9], [5, 0, last, 20], [11, 0, last, 9]];
+        let by_export: &[[u8; 4]] = &[[5, 0, 0, 20], [11, 0, 0, 9], [5, 0, 20, last], [9, 0, 20, 9]];
+        for (way, removal) in [
+            (by_structure, [6, 0, 20, 0]),
+            (by_import, [10, 0, 20, 9]),
+            (by_export, [12, 0, 0, 9]),
+            (by_export, [6, 0, 0, 20]),
+        ] {
+            let two_ways = and(row_by_imports(8), way);
+            assert_eq!(answer(&two_ways, 20), Some(1));
+            match last {
+                7 => assert_eq!(access(&accepted(&two_ways, removal), 20, 9), Ok(Some(8))),
+                _ => refused(&two_ways, removal, 11),
+            }
+        }
+    }
+}
+
+/// Reading 12: exactly 8 steps is access and 9 is none. "valid: for each import or export pair the area has access to the object"
+#[test]
+fn reading_12_entry_at_9_steps_is_unsound_and_at_8_sound() {
+    let (inwards, outwards) = (from_f(&row_by_imports(7)), from_f(&row_by_exports(7)));
+    for sound in [with_import(&inwards, 8), with_import(&outwards, 8), with_export(&outwards, 8)] {
+        assert_eq!(least_chain(&sound, 8, 9), Some(8));
+        assert!(sound.is_sound());
+        assert_eq!(access(&sound, 8, 9), Ok(Some(8)));
+        assert_eq!(step(&sound, [5, 0, 8, 8]).err(), None);
+    }
+    let (inwards, outwards) = (from_f(&row_by_imports(8)), from_f(&row_by_exports(8)));
+    for unsound in [with_import(&inwards, 9), with_import(&outwards, 9), with_export(&outwards, 9)] {
+        assert_eq!(least_chain(&unsound, 9, 9), Some(9));
+        is_12_for_all(&unsound);
+    }
+    let row_31 = (9..=31).fold(inwards, |state, area| with_import(&state, area));
+    assert_eq!(least_chain(&row_31, 31, 9), Some(31));
+    is_12_for_all(&row_31);
+    let row_31 = (9..=31).fold(outwards, |state, area| with_export(&state, area));
+    assert_eq!(least_chain(&row_31, 31, 9), Some(31));
+    is_12_for_all(&row_31);
+}
+
+/// The state with an import of object 9 by the area put into it.
+fn with_import(state: &State, area: u8) -> State {
+    let mut state = state.clone();
+    state.imports.insert((9, area));
+    state
+}
+
+/// The state with an export of object 9 by the area put into it.
+fn with_export(state: &State, area: u8) -> State {
+    let mut state = state.clone();
+    state.exports.insert((9, area));
+    state
+}
+
+/// Asserts that the state is unsound: 12 for instructions of every code, for what would mend it too, and for the question.
+fn is_12_for_all(state: &State) {
+    assert!(!state.is_sound());
+    for code in 0..=13 {
+        for [activator, a, b] in [[0, 9, 9], [0, 8, 9], [0, 1, 0], [0, 9, 8], [255, 255, 255]] {
+            assert_eq!(step(state, [code, activator, a, b]), Err(12));
+        }
+    }
+    assert_eq!(step_record(&to_record(state), [10, 0, 9, 9]), Err(12));
+    for (area, object) in [(0, 9), (8, 9), (9, 9), (0, 8), (32, 64)] {
+        assert_eq!(access(state, area, object), Err(12));
+    }
+}
+
+/// A site file of user 0's areas 0 to 31, with object 9 defined in area 0.
+fn site(structure: &[[u8; 2]], imports: &[[u8; 2]], exports: &[[u8; 2]], labels: &[[u8; 32]]) -> Vec<u8> {
+    let owners: Vec<[u8; 2]> = (0..=31).map(|area| [0, area]).collect();
+    file(&owners, &[[9, 0]], structure, imports, exports, labels)
+}
+
+/// The table rows of object 9 with each of the areas.
+fn of_9(areas: std::ops::RangeInclusive<u8>) -> Vec<[u8; 2]> {
+    areas.map(|area| [9, area]).collect()
+}
+
+/// Document 02, point 2: "A file whose import or export needs more gets 29."
+#[test]
+fn file_with_an_entry_at_8_steps_is_read_and_at_9_gets_29() {
+    let inwards: Vec<[u8; 2]> = (1..=31).map(|area| [area, area - 1]).collect();
+    let outwards: Vec<[u8; 2]> = (0..=30).map(|area| [area, area + 1]).collect();
+    let importing = site(&inwards, &of_9(1..=8), NO, NO_LABELS);
+    let exporting = site(&outwards, NO, &of_9(0..=8), NO_LABELS); // area 9 is 9 steps off, with no entry
+    for (row, bytes) in [(row_by_imports(8), importing), (row_by_exports(8), exporting)] {
+        let state = from_f(&row);
+        assert_eq!(write_file(&state, &BTreeMap::new()), bytes);
+        assert_eq!(read_file(&bytes), Ok((state, BTreeMap::new())));
+    }
+    assert!(read_file(&site(&inwards, &of_9(1..=8), &of_9(8..=8), NO_LABELS)).is_ok());
+    assert!(read_file(&site(&outwards, &of_9(8..=8), &of_9(0..=7), NO_LABELS)).is_ok());
+    for far in [9, 10, 31] {
+        assert_eq!(read_file(&site(&inwards, &of_9(1..=far), NO, NO_LABELS)), Err(29));
+        assert_eq!(read_file(&site(&outwards, NO, &of_9(0..=far), NO_LABELS)), Err(29));
+        assert_eq!(read_file(&site(&inwards, &of_9(1..=8), &of_9(far..=far), NO_LABELS)), Err(29));
+        assert_eq!(read_file(&site(&outwards, &of_9(far..=far), &of_9(0..=8), NO_LABELS)), Err(29));
+    }
+}
+
+/// Document 02, point 2: "A file whose import or export needs more gets 29." 28 comes before it, and the file has no label.
+#[test]
+fn file_with_an_entry_at_9_steps_and_something_else() {
+    let inwards: Vec<[u8; 2]> = (1..=31).map(|area| [area, area - 1]).collect();
+    let hall = &[entry(0, 4, b"HALL")];
+    let read = site(&inwards, &of_9(1..=8), NO, hall);
+    assert_eq!(label(&read, 0), (28 + 64 + 2 + 62 + 16 + 2, 4));
+    let refused = site(&inwards, &of_9(1..=9), NO, hall);
+    assert_eq!((read_file(&refused), label(&refused, 0)), (Err(29), (0, 0)));
+    // and an import of object 8, which is not listed; then a label of area 10, which is not
+    let unlisted = [&[[8, 1]], &of_9(1..=9)[..]].concat();
+    assert_eq!(read_file(&site(&inwards, &unlisted, NO, hall)), Err(28));
+    let owners: Vec<[u8; 2]> = (0..=9).map(|area| [0, area]).collect();
+    let label_of_10 = &[entry(10, 4, b"HALL")];
+    let nine_steps = |labels: &[[u8; 32]]| file(&owners, &[[9, 0]], &inwards[..9], &of_9(1..=9), NO, labels);
+    assert_eq!(read_file(&nine_steps(label_of_10)), Err(28));
+    assert_eq!(read_file(&nine_steps(hall)), Err(29));
+}
+
+/// A row by imports in which area 7, at 7 steps, is user 5's, area 8, at 8 steps, is user 4's, and area 9 is user 6's.
+/// Area 8 lies in area 9 too and exports object 9, so a chain of 9 steps leads to area 9, which has no entry.
+fn lent_row() -> Vec<[u8; 4]> {
+    let mut list = and(row_by_imports(8), &[[5, 0, 8, 9], [11, 0, 8, 9]]);
+    for (area, user) in [(7, 5), (8, 4), (9, 6)] {
+        list.extend([[3, 0, area, user], [4, 0, area, 0]]);
+    }
+    list
+}
+
+/// Document 02, point 2: "The guarantee that borrowed tables stay now speaks of chains within that limit."
+#[test]
+fn lending_guarantee_at_7_8_and_9_steps() {
+    let start = from_f(&lent_row());
+    assert_eq!((access(&start, 7, 9), access(&start, 8, 9)), (Ok(Some(7)), Ok(Some(8))));
+    assert_eq!((access(&start, 9, 9), least_chain(&start, 9, 9)), (Ok(None), Some(9)));
+    let cuts = [
+        ([6, 0, 1, 0], 11),
+        ([6, 0, 4, 3], 11),
+        ([6, 0, 7, 6], 11),
+        ([8, 0, 0, 9], 11),
+        ([10, 0, 1, 9], 11),
+        ([10, 0, 6, 9], 11),
+        ([10, 0, 8, 9], 5),
+        ([12, 6, 8, 9], 5),
+        ([4, 6, 8, 4], 5),
+        ([9, 6, 9, 9], 10),
+        ([11, 6, 9, 9], 10),
+    ];
+    let cuts_of_5 = [([6, 5, 8, 7], 11), ([6, 5, 7, 6], 11), ([10, 5, 7, 9], 11)];
+    for (instruction, refusal) in cuts.into_iter().chain(cuts_of_5) {
+        refused(&lent_row(), instruction, refusal);
+    }
+    let list: Vec<[u8; 4]> = cuts.into_iter().map(|(instruction, _)| instruction).collect();
+    let list = and(list, &[[6, 6, 8, 9], [6, 6, 9, 8]]);
+    let after = run(&start, &list);
+    assert_eq!(after.structure.len(), start.structure.len() - 2);
+    for silent in [7, 8] {
+        assert_eq!(lending_guarantee(&start, &list, &after, silent), Ok(()));
+        assert_eq!(access(&after, silent.into(), 9), Ok(Some(silent)));
+    }
+    assert!(after.imports.contains(&(9, 7)) && after.imports.contains(&(9, 8)) && after.exports.contains(&(9, 8)));
+    assert!(after.owners.contains(&(5, 7)) && after.owners.contains(&(4, 8)));
+}
+
+/// Document 02, point 2: "The guarantee that borrowed tables stay now speaks of chains within that limit."
+/// Area 9 borrows nothing: at 9 steps it has no access, it may gain access, and may lose it again.
+#[test]
+fn lending_guarantee_and_an_area_at_9_steps_with_no_entry() {
+    let start = from_f(&lent_row());
+    assert_eq!(access(&start, 9, 9), Ok(None));
+    let mut now = start.clone();
+    let mut list = Vec::new();
+    for (instruction, steps) in [
+        ([5, 0, 2, 0], Some(8)),
+        ([6, 0, 2, 0], None),
+        ([5, 0, 6, 0], Some(4)),
+        ([12, 4, 8, 9], None),
+    ] {
+        now = step(&now, instruction).expect("accepted");
+        list.push(instruction);
+        assert_eq!(access(&now, 9, 9), Ok(steps));
+        assert_eq!(lending_guarantee(&start, &list, &now, 9), Ok(()));
+    }
+}
+
+/// Document 02, point 2: "now speaks of chains within that limit". Of two ways to area 20, user 4's, the short one is cut.
+#[test]
+fn lending_guarantee_speaks_of_chains_within_the_limit() {
+    for (last, steps, refusal) in [(7, 8, 0), (8, 9, 11)] {
+        let importing: &[[u8; 4]] = &[[5, 0, 20, 0], [9, 0, 20, 9], [5, 0, 20, last]];
+        let exporting: &[[u8; 4]] = &[[5, 0, 0, 20], [11, 0, 0, 9], [11, 0, 20, 9], [5, 0, last, 20], [11, 0, last, 9]];
+        for (way, inner, outer) in [(importing, 20, 0), (exporting, 0, 20)] {
+            let hand_over = [[3, 0, 20, 4], [4, 0, 20, 0]];
+            let start = from_f(&and(and(row_by_imports(8), way), &hand_over));
+            let list = [[6, 0, inner, outer]];
+            assert_eq!(step(&start, list[0]).err().unwrap_or(0), refusal);
+            assert_eq!(lending_guarantee(&start, &list, &run(&start, &list), 20), Ok(()));
+            // the state without the pair, had it been removed in either case
+            let mut cut = start.clone();
+            cut.structure.remove(&(inner, outer));
+            assert_eq!(least_chain(&cut, 20, 9), Some(steps));
+            assert_eq!(lending_guarantee(&start, &list, &cut, 20).is_ok(), refusal == 0);
+        }
+    }
+}
+
+/// Four bytes at a time in a fixed disorder.
+fn disorder() -> impl Iterator<Item = [u8; 4]> {
+    let mut number: u32 = 2_463_534_242;
+    std::iter::repeat_with(move || {
+        number ^= number << 13;
+        number ^= number >> 17;
+        number ^= number << 5;
+        number.to_le_bytes()
+    })
+}
+
+/// An instruction of any user but one: any code, and most often one that touches the row or object 9.
+fn of_another(silent: u8, [kind, user, a, b]: [u8; 4]) -> [u8; 4] {
+    let code = [1, 2, 3, 4, 5, 5, 5, 6, 6, 6, 7, 8, 9, 9, 10, 10, 11, 12, 12, 0, 13][usize::from(kind) % 21];
+    let activator = [0, 0, 0, 0, 4, 5, 6, 1][usize::from(user) % 8];
+    let b = match code {
+        1 | 2 => 0,
+        3 | 4 => b % 7,
+        5 | 6 => b % 12,
+        _ => [8, 9, 9, 9][usize::from(b) % 4],
+    };
+    [code, if activator == silent { 0 } else { activator }, a % 12, b]
+}
+
+/// Document 02, point 2: "The guarantee that borrowed tables stay now speaks of chains within that limit."
+/// Each of the areas at 7, 8 and 9 steps is silent in its turn, and keeps its entries and its access to them, whatever others do.
+#[test]
+fn lending_guarantee_over_lists_in_disorder() {
+    let start = from_f(&lent_row());
+    let mut bytes = disorder();
+    let mut seen = BTreeSet::new();
+    for (user, area, imports, exports) in [(5, 7, vec![9], vec![]), (4, 8, vec![9], vec![9]), (6, 9, vec![], vec![])] {
+        for _ in 0..50 {
+            let list: Vec<[u8; 4]> = bytes.by_ref().take(40).map(|bytes| of_another(user, bytes)).collect();
+            let after = run(&start, &list);
+            let of_area = |pairs: &BTreeSet<(u8, u8)>| -> Vec<u8> {
+                let with_area = pairs.iter().filter(|pair| pair.1 == area);
+                with_area.map(|pair| pair.0).collect()
+            };
+            assert_eq!((of_area(&after.owners), of_area(&after.definitions)), (vec![user], vec![]));
+            assert_eq!(
+                (of_area(&after.imports), of_area(&after.exports)),
+                (imports.clone(), exports.clone())
+            );
+            let steps = least_chain(&after, area, 9).filter(|&steps| steps <= 8);
+            assert!(steps.is_some() || imports.is_empty(), "area {area} after {list:?}");
+            assert_eq!(lending_guarantee(&start, &list, &after, area), Ok(()), "{list:?}");
+            seen.insert((area, steps));
+        }
+    }
+    let at_the_limit = [(7, Some(7)), (8, Some(7)), (8, Some(8)), (9, Some(8)), (9, None)];
+    assert!(seen.is_superset(&BTreeSet::from(at_the_limit)));
+}
+
+/// For an instruction of user 0, who owns all: 0, 6, 7, 10 or 11 by `least_chains` and the limit of 8 steps, and the most steps
+/// that an entry has in the state it would give, 255 where no chain leads to it.
+fn reply_within_8(state: &State, [code, _, a, b]: [u8; 4]) -> (u8, u8) {
+    let mut next = state.clone();
+    let (changed, otherwise) = match code {
+        5 => (next.structure.insert((a, b)), 6),
+        6 => (next.structure.remove(&(a, b)), 7),
+        9 => (next.imports.insert((b, a)), 6),
+        10 => (next.imports.remove(&(b, a)), 7),
+        11 => (next.exports.insert((b, a)), 6),
+        _ => (next.exports.remove(&(b, a)), 7),
+    };
+    let chains = least_chains(&next, 9);
+    let lacks_access = |area: u8| chains.get(&area).is_none_or(|&steps| steps > 8);
+    let entries = || next.imports.iter().chain(&next.exports).map(|&(_, area)| area);
+    let reply = match code {
+        _ if !changed => otherwise,
+        9 | 11 if lacks_access(a) => 10,
+        6 | 10 | 12 if entries().any(lacks_access) => 11,
+        _ => 0,
+    };
+    let most_steps = entries().map(|area| chains.get(&area).copied().unwrap_or(255)).max();
+    (reply, most_steps.unwrap_or(0))
+}
+
+/// Document 02, point 2: "Access now means a chain of 8 steps or fewer, everywhere". The question, 10 and 11 by `least_chains`.
+#[test]
+fn replies_and_answers_are_those_of_the_least_chains_within_8_steps() {
+    // twelve areas in a row, each in both its neighbours, and imports by areas 1 to 7
+    let mut list = vec![[7, 0, 0, 9]];
+    list.extend((1..=11).flat_map(|area| [[1, 0, area, 0], [5, 0, area, area - 1], [5, 0, area - 1, area]]));
+    list.extend((1..=7).map(|area| [9, 0, area, 9]));
+    let mut state = from_f(&list);
+    let mut seen = BTreeSet::new();
+    let mut chains_of_9 = 0;
+    for [kind, a, other, _] in disorder().take(1000) {
+        let code = [5, 6, 6, 6, 9, 9, 10, 11, 12][usize::from(kind) % 9];
+        let neighbour = (a % 12 + [0, 0, 0, 2, 2, 2, 2, 3][usize::from(other) % 8])
+            .saturating_sub(1)
+            .min(11);
+        let instruction = [code, 0, a % 12, if code < 7 { neighbour } else { 9 }];
+        let (reply, most_steps) = reply_within_8(&state, instruction);
+        assert_eq!(step(&state, instruction).err().unwrap_or(0), reply, "{instruction:?} at {state:?}");
+        seen.insert((reply, most_steps));
+        state = run(&state, &[instruction]);
+        let chains = least_chains(&state, 9);
+        for area in 0..=11 {
+            let answer = chains.get(&area).copied().filter(|&steps| steps <= 8);
+            assert_eq!(access(&state, area.into(), 9), Ok(answer));
+        }
+        chains_of_9 += chains.values().filter(|&&steps| steps == 9).count();
+    }
+    assert!(seen.is_superset(&BTreeSet::from([(0, 8), (10, 9), (11, 9)])) && chains_of_9 > 0);
 }
 
 // The small states

@@ -3,11 +3,11 @@
  * must come is files.out: every example of the refusals 21 to 29, both sides of each limit, two refusals at
  * once, the largest file, labels, and, behind the cases, a good file with each of its bytes changed in turn.
  *
- * A case is a line: two spaces, a name, a colon, a file (good, lent, founding, bare, max or none) and changes
- * to it, one space before each. A number is put as the next byte, and @ before a number makes it the place of
- * the next byte. The number after = is the length to which the file is cut, or filled with zeros. With a
- * question mark in place of the colon a label is asked for, and the number after = is the area. A line that
- * begins with no space, and has neither a colon nor a question mark, is a heading.
+ * A case is a line: two spaces, a name, a colon, a file (good, lent, row, founding, bare, max or none) and
+ * changes to it, one space before each. A number is put as the next byte, and @ before a number makes it the
+ * place of the next byte. The number after = is the length to which the file is cut, or filled with zeros.
+ * With a question mark in place of the colon a label is asked for, and the number after = is the area. A line
+ * that begins with no space, and has neither a colon nor a question mark, is a heading.
  */
 #include "cases.h"
 
@@ -47,6 +47,23 @@ static const uint8_t lent[38] = {
     9, 0,
     1, 0,
     9, 1,
+};
+
+/*
+ * Areas 0 to 9, each in the next. Areas 0 to 8 export object 9, which area 0 defines: area 8, which imports it
+ * too, is at 8 steps, and area 9 would be at 9. Area 0 defines and exports object 10: a pair that a case can
+ * change to an export of object 9 by area 9.
+ */
+static const uint8_t row[124] = {
+    FIELD(1), FIELD(124),
+    FIELD(10), FIELD(2), FIELD(9), FIELD(1), FIELD(10), FIELD(1),
+    FIELD(28), FIELD(48), FIELD(52), FIELD(70), FIELD(72), FIELD(92),
+    0, 0, 0, 1, 0, 2, 0, 3, 0, 4, 0, 5, 0, 6, 0, 7, 0, 8, 0, 9,  /* 28: owners */
+    9, 0, 10, 0,                                                 /* 48: definitions */
+    0, 1, 1, 2, 2, 3, 3, 4, 4, 5, 5, 6, 6, 7, 7, 8, 8, 9,        /* 52: structure */
+    9, 8,                                                        /* 70: imports */
+    9, 0, 9, 1, 9, 2, 9, 3, 9, 4, 9, 5, 9, 6, 9, 7, 9, 8, 10, 0, /* 72: exports */
+    8, 4, 'E', 'a', 's', 't',                                    /* 92: the label of area 8 */
 };
 
 static const uint8_t founding[30] = {
@@ -123,11 +140,9 @@ static size_t put_file(const char *name, size_t name_length)
         const uint8_t *bytes;
         size_t length;
     } files[] = {
-        {"good", good, sizeof good},
-        {"lent", lent, sizeof lent},
-        {"founding", founding, sizeof founding},
-        {"bare", bare, sizeof bare},
-        {"max", largest, sizeof largest},
+        {"good", good, sizeof good}, {"lent", lent, sizeof lent},
+        {"row", row, sizeof row},    {"founding", founding, sizeof founding},
+        {"bare", bare, sizeof bare}, {"max", largest, sizeof largest},
         {"none", bare, 0},
     };
     size_t i;

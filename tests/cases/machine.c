@@ -88,17 +88,70 @@ static int take_counts(const char *text, char *worked)
     return 1;
 }
 
-static int take_chain(const char *text, char *worked)
+/* Obeys an instruction of user 0 that must be accepted. */
+static void build(uint8_t code, unsigned a, unsigned b)
 {
-    uint8_t area;
+    uint8_t refusal = obey(code, 0, (uint8_t)a, (uint8_t)b);
 
-    if (strcmp(text, "areas 1 to 31, each in the next; all but 31 export object 9") != 0)
+    if (refusal != PANELRIGHTS_OK)
+        fail("%d 0 %u %u is refused as %d", code, a, b, refusal);
+}
+
+static int take_outward_row(const char *text, char *worked)
+{
+    unsigned last, exporting, area;
+
+    if (sscanf(text, "areas 1 to %2u, each in the next; areas 0 to %2u", &last, &exporting) != 2)
         return 0;
-    for (area = 0; area < 31; area++)
-        if (obey(PANELRIGHTS_LIST_AREA, 0, area + 1, 0) ||
-            obey(PANELRIGHTS_ADD_STRUCTURE, 0, area, area + 1) || obey(PANELRIGHTS_ADD_EXPORT, 0, area, 9))
-            fail("the chain is refused at area %d", area);
-    strcpy(worked, text);
+    sprintf(worked, "areas 1 to %u, each in the next; areas 0 to %u export object 9", last, exporting);
+    if (strcmp(worked, text) != 0)
+        return 0;
+    for (area = 0; area < last; area++) {
+        build(PANELRIGHTS_LIST_AREA, area + 1, 0);
+        build(PANELRIGHTS_ADD_STRUCTURE, area, area + 1);
+    }
+    for (area = 0; area <= exporting; area++)
+        build(PANELRIGHTS_ADD_EXPORT, area, 9);
+    return 1;
+}
+
+static int take_inward_row(const char *text, char *worked)
+{
+    unsigned last, importing, area;
+
+    if (sscanf(text, "areas 1 to %2u, each in the one before; areas 1 to %2u", &last, &importing) != 2)
+        return 0;
+    sprintf(worked, "areas 1 to %u, each in the one before; areas 1 to %u import object 9", last, importing);
+    if (strcmp(worked, text) != 0)
+        return 0;
+    for (area = 1; area <= last; area++) {
+        build(PANELRIGHTS_LIST_AREA, area, 0);
+        build(PANELRIGHTS_ADD_STRUCTURE, area, area - 1);
+    }
+    for (area = 1; area <= importing; area++)
+        build(PANELRIGHTS_ADD_IMPORT, area, 9);
+    return 1;
+}
+
+static int take_zigzag(const char *text, char *worked)
+{
+    unsigned last, area;
+
+    if (sscanf(text, "areas 1 to %2u", &last) != 1)
+        return 0;
+    sprintf(worked, "areas 1 to %u in a zigzag, object 9 along it", last);
+    if (strcmp(worked, text) != 0)
+        return 0;
+    for (area = 1; area <= last; area++) {
+        build(PANELRIGHTS_LIST_AREA, area, 0);
+        if (area % 2 == 1) {
+            build(PANELRIGHTS_ADD_STRUCTURE, area - 1, area);
+            build(PANELRIGHTS_ADD_EXPORT, area - 1, 9);
+        } else {
+            build(PANELRIGHTS_ADD_STRUCTURE, area, area - 1);
+            build(PANELRIGHTS_ADD_IMPORT, area, 9);
+        }
+    }
     return 1;
 }
 
@@ -134,16 +187,24 @@ static int take_listing(const char *text, char *worked)
 
 static int take_pair(const char *text, char *worked)
 {
+    static const char *const words[] = {"defined in", "imported by", "exported by"};
     unsigned object, area;
-    int defined = sscanf(text, "the record: object %3u defined in area %3u", &object, &area) == 2;
+    size_t i;
 
-    if (!defined && sscanf(text, "the record: object %3u imported by area %3u", &object, &area) != 2)
+    if (sscanf(text, "the record: object %3u %*s %*s area %3u", &object, &area) != 2 ||
+        object >= PANELRIGHTS_OBJECTS || area >= PANELRIGHTS_AREAS)
         return 0;
-    sprintf(worked, "the record: object %u %s area %u", object, defined ? "defined in" : "imported by", area);
-    if (strcmp(worked, text) != 0 || object >= PANELRIGHTS_OBJECTS || area >= PANELRIGHTS_AREAS)
-        return 0;
-    write_place(defined ? DEFINITION_AT(object, area) : IMPORT_AT(object, area));
-    return 1;
+    for (i = 0; i < sizeof words / sizeof *words; i++) {
+        const size_t places[] = {DEFINITION_AT(object, area), IMPORT_AT(object, area),
+                                 EXPORT_AT(object, area)};
+
+        sprintf(worked, "the record: object %u %s area %u", object, words[i], area);
+        if (strcmp(worked, text) == 0) {
+            write_place(places[i]);
+            return 1;
+        }
+    }
+    return 0;
 }
 
 static int take_emptying(const char *text, char *worked)
@@ -157,7 +218,8 @@ static int take_emptying(const char *text, char *worked)
 }
 
 static int (*const forms[])(const char *text, char *worked) = {
-    take_instruction, take_question, take_counts, take_chain, take_listing, take_pair, take_emptying,
+    take_instruction, take_question, take_counts, take_outward_row, take_inward_row,
+    take_zigzag,      take_listing,  take_pair,   take_emptying,
 };
 
 /* A case without a line would pass whatever the library does. */

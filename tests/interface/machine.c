@@ -1,4 +1,5 @@
-/* The session of document 01, the examples of its table of refusals, and the access question. */
+/* The session of document 01, the examples of its table of refusals, the access question, and chains of 8
+ * steps and of 9. */
 #include "tests.h"
 
 #include <string.h>
@@ -188,9 +189,60 @@ static void test_access(void)
     ask_edges(&site, 0);
 }
 
+/* Areas 0 to 9, each in the next. Areas 0 to 8 export object 9, which area 0 defines. */
+static void make_row(struct guarded *site)
+{
+    static const uint8_t define[4] = {PANELRIGHTS_DEFINE, 0, 0, 9};
+    uint8_t area;
+
+    found(site);
+    step(site, define, PANELRIGHTS_OK);
+    for (area = 0; area < 9; area++) {
+        const uint8_t list_next[4] = {PANELRIGHTS_LIST_AREA, 0, area + 1, 0};
+        const uint8_t put_into_next[4] = {PANELRIGHTS_ADD_STRUCTURE, 0, area, area + 1};
+        const uint8_t add_export[4] = {PANELRIGHTS_ADD_EXPORT, 0, area, 9};
+
+        step(site, list_next, PANELRIGHTS_OK);
+        step(site, put_into_next, PANELRIGHTS_OK);
+        step(site, add_export, PANELRIGHTS_OK);
+    }
+}
+
+/*
+ * Area 8 is at 8 steps, and area 9 would be at 9. The last three lines: with area 0 in area 2 too it is at 8,
+ * and once it imports, that pair must stay.
+ */
+static const struct line limit[] = {
+    {{9, 0, 8, 9}, 0}, {{9, 0, 9, 9}, 10}, {{11, 0, 9, 9}, 10},
+    {{5, 0, 0, 2}, 0}, {{9, 0, 9, 9}, 0},  {{6, 0, 0, 2}, 11},
+};
+
+static void test_most_steps(void)
+{
+    struct guarded site;
+    uint32_t area;
+    size_t i;
+
+    make_row(&site);
+    for (area = 0; area < 8; area++)
+        CHECK_NUMBER(ask(&site, area, 9), area);
+    CHECK_NUMBER(ask(&site, 8, 9), PANELRIGHTS_MOST_STEPS);
+    CHECK_NUMBER(ask(&site, 9, 9), PANELRIGHTS_NO_ACCESS);
+    for (i = 0; i < sizeof limit / sizeof *limit; i++)
+        step(&site, limit[i].instruction, limit[i].answer);
+    CHECK_NUMBER(ask(&site, 9, 9), PANELRIGHTS_MOST_STEPS);
+    /* An import by 8 steps that is written into the record, and one by 9. */
+    make_row(&site);
+    site.state[IMPORT_AT(9, 8)] = 1;
+    CHECK_NUMBER(ask(&site, 8, 9), PANELRIGHTS_MOST_STEPS);
+    site.state[IMPORT_AT(9, 9)] = 1;
+    CHECK_NUMBER(ask(&site, 8, 9), PANELRIGHTS_ACCESS_REFUSED + PANELRIGHTS_UNSOUND_STATE);
+}
+
 void test_machine(void)
 {
     test_session();
     test_refusals();
     test_access();
+    test_most_steps();
 }

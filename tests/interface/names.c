@@ -1,4 +1,5 @@
-/* The header's names against the numbers of document 01, or where it has none of the header's own text. */
+/* The header's names against the numbers of documents 01 and 02, or where they have none of the header's own
+ * text. */
 #include "tests.h"
 
 static void test_limits(void)
@@ -6,6 +7,7 @@ static void test_limits(void)
     CHECK_NUMBER(PANELRIGHTS_USERS, 32);
     CHECK_NUMBER(PANELRIGHTS_AREAS, 32);
     CHECK_NUMBER(PANELRIGHTS_OBJECTS, 64);
+    CHECK_NUMBER(PANELRIGHTS_MOST_STEPS, 8);
     CHECK_NUMBER(PANELRIGHTS_STATE_BYTES, 8320);
     CHECK_NUMBER(PANELRIGHTS_NO_ACCESS, 255);
     CHECK_NUMBER(PANELRIGHTS_ACCESS_REFUSED, 256);

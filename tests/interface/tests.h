@@ -1,4 +1,4 @@
-/* The tests of the C interface, written from include/panelrights.h and document 01 alone. */
+/* The tests of the C interface, written from include/panelrights.h and documents 01 and 02 alone. */
 #ifndef TESTS_H
 #define TESTS_H
 

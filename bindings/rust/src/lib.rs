@@ -4,8 +4,8 @@
 //! A site has users, areas (a panel, a loop, a building) and objects (tables that are stored on panels). A [`State`] says who owns
 //! which area, which object is defined where, which area lies in which, and which areas import or export an object. It changes by
 //! twelve [kinds](Kind) of instruction, each obeyed or refused with a [`Refusal`]; [`State::access`] says over how many
-//! steps an object reaches an area. You check nothing beforehand: any bytes and any numbers have an answer, and none makes these
-//! functions panic.
+//! steps, at most [`MOST_STEPS`], an object reaches an area. You check nothing beforehand: any bytes and any numbers have an
+//! answer, and none makes these functions panic.
 //!
 //! ```
 //! use panelrights::{Kind, Refusal, State};
@@ -46,7 +46,7 @@ mod state;
 pub use file::{label, read_file};
 pub use instruction::{Instruction, Kind};
 pub use refusal::{NoRefusal, Refusal};
-pub use state::{State, AREAS, OBJECTS, USERS};
+pub use state::{State, AREAS, MOST_STEPS, OBJECTS, USERS};
 
 /// Of eight marks in a byte, the lowest number in the lowest bit: the place (0 to 7) of the lowest mark set, if any.
 ///

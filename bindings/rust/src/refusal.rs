@@ -83,11 +83,13 @@ refusals! {
     AreaInUse = 9: "The area is still in use: it has another owner or a table, lies in an area or has one in it, or imports or \
         exports a table. Remove all these first.";
     /// The area would import or export an object that it has no access to.
-    WouldLackAccess = 10: "The table does not reach the area, so the area can't import or export it. Either the area must lie in one \
-        that sees the table and import it from there, or an area inside it that sees the table must export it.";
+    WouldLackAccess = 10: "The table does not reach the area, or only over more than 8 steps, so the area can't import or export \
+        it. Either the area must lie in one that sees the table over at most 7 steps and import it from there, or an area \
+        inside it that sees the table over at most 7 steps must export it.";
     /// An area that imports or exports an object would lose its access to it.
-    WouldLoseAccess = 11: "An area that imports or exports a table would lose its access to it. Take back its export and its import of \
-        the table first, beginning with the area that is the most steps away.";
+    WouldLoseAccess = 11: "An area that imports or exports a table would lose its access to it: no way of at most 8 steps would be \
+        left. Take back its export and its import of the table first, beginning with the area that is the most steps away; \
+        or first lay another way of at most 8 steps.";
     /// The bytes are no record, or the record's state is not sound.
     UnsoundState = 12: "The record of the site is damaged, so nothing is decided on it. Go back to the site file or to the last \
         good copy.";
@@ -116,8 +118,9 @@ refusals! {
     FileLists = 28: "The site file names an area that has no owner or a table that is stored nowhere, stores a table in two \
         areas, or has no owner at all. Correct the entry and save the site anew.";
     /// The file has an import or export pair whose area lacks access.
-    FileLacksAccess = 29: "The site file has an area that imports or exports a table which does not reach it. Take out that import \
-        or export, or enter what leads the table there, and save the site anew.";
+    FileLacksAccess = 29: "The site file has an area that imports or exports a table which does not reach it, or only over more \
+        than 8 steps. In the program that wrote the file, take out that import or export or enter a way of at most 8 steps, \
+        and save the site anew.";
 
     /// The state buffer has another length than a record.
     BufferLength = 31: "The record of the site has the wrong length. The program that kept it is at fault: tell its maker, and go \

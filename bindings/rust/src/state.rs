@@ -11,6 +11,8 @@ pub const USERS: u8 = 32;
 pub const AREAS: u8 = 32;
 /// How many objects there can be.
 pub const OBJECTS: u8 = 64;
+/// Across how many steps an object may be lent: a longer chain is no access.
+pub const MOST_STEPS: u8 = 8;
 
 /// A part of the record: where it begins, and how many firsts and seconds its pairs can have. A list is a part with one second.
 struct Part {
@@ -118,8 +120,9 @@ impl State {
     }
 
     /// In how many steps does the object reach the area? The number of steps in a shortest chain, 0 for the area that
-    /// defines it and never above 31; `None` for no access. Refused are numbers out of range ([`Refusal::OutOfRange`];
-    /// 256 is no area, and not area 0) and what is not listed ([`Refusal::NotListed`]).
+    /// defines it and never above [`MOST_STEPS`]; `None` for no access, also where every chain has more steps. Refused
+    /// are numbers out of range ([`Refusal::OutOfRange`]; 256 is no area, and not area 0) and what is not listed
+    /// ([`Refusal::NotListed`]).
     pub fn access(&self, area: u32, object: u32) -> Result<Option<u8>, Refusal> {
         // SAFETY: the pointer is that of a live array, handed over with its length.
         let answer = unsafe { sys::panelrights_access(self.record.as_ptr(), self.record.len(), area, object) };

@@ -49,6 +49,28 @@ fn a_good_file() {
     assert_eq!(State::from_record(state.as_record()), Ok(state));
 }
 
+/// Areas 0 to 9, each in the next; object 9 of area 0 is imported by one area and exported by the first few.
+fn row(importer: u8, exporters: u8) -> Vec<u8> {
+    let pairs = |pair: fn(u8) -> [u8; 2], count: u8| -> Vec<[u8; 2]> { (0..count).map(pair).collect() };
+    let owners = pairs(|area| [0, area], 10);
+    let structure = pairs(|inner| [inner, inner + 1], 9);
+    let exports = pairs(|area| [9, area], exporters);
+    file([&owners, &[[9, 0]], &structure, &[[9, importer]], &exports], &[(1, "x")])
+}
+
+/// Areas 0 to 8 export, the last by 8 steps: area 8 may import, and area 9, by 9 steps, neither import nor export.
+#[test]
+fn rows_of_8_steps_and_of_9() {
+    let state = read_file(&row(8, 9)).unwrap();
+    assert_eq!(state.access(8, 9), Ok(Some(8)));
+    assert_eq!(state.access(9, 9), Ok(None));
+    assert_eq!(label(&row(8, 9), 1), Some("x"));
+    for far in [row(9, 9), row(8, 10)] {
+        assert_eq!(read_file(&far), Err(Refusal::FileLacksAccess));
+        assert_eq!(label(&far, 1), None);
+    }
+}
+
 /// Each refused file, with a label asked for that the file would have.
 #[test]
 fn refused_files() {

@@ -1,13 +1,18 @@
-//! The session of document 01, and its examples of refused instructions.
+//! The session of document 01, its examples of refused instructions, and chains of 8 steps and of 9.
 
 use panelrights::{Instruction, Kind, Refusal, State};
+
+/// Obeys the instructions, all of which must be accepted.
+fn obey(state: &mut State, instructions: &[[u8; 4]]) {
+    for &instruction in instructions {
+        assert_eq!(state.step(instruction), Ok(()), "{instruction:?}");
+    }
+}
 
 /// The founding state after the instructions, all of which must be accepted.
 fn after(instructions: &[[u8; 4]]) -> State {
     let mut state = State::founding();
-    for &instruction in instructions {
-        assert_eq!(state.step(instruction), Ok(()), "{instruction:?}");
-    }
+    obey(&mut state, instructions);
     state
 }
 
@@ -152,23 +157,65 @@ fn numbers_above_255_are_out_of_range() {
     assert_eq!(state.access(u32::MAX, u32::MAX), Err(Refusal::OutOfRange));
 }
 
-/// Areas in a row, each in the next: the last is 31 steps from the definer.
-#[test]
-fn the_longest_chain() {
+/// Areas 0 to 9, each in the next. Areas 0 to 8 export object 63, which area 0 defines: area 8 is at 8 steps, and the
+/// export of area 8 leads to area 9 by 9.
+fn row() -> State {
     let mut state = after(&[[7, 0, 0, 63]]);
-    for area in 0..31 {
-        for kind in [
-            Kind::ListArea { area: area + 1 },
-            Kind::AddStructure { inner: area, outer: area + 1 },
-            Kind::AddExport { area, object: 63 },
-        ] {
-            assert_eq!(state.step(kind.by(0)), Ok(()));
-        }
+    for area in 0..9 {
+        obey(&mut state, &[[1, 0, area + 1, 0], [5, 0, area, area + 1], [11, 0, area, 63]]);
     }
-    for area in 0..32 {
+    state
+}
+
+#[test]
+fn the_limit_is_8_steps() {
+    assert_eq!(panelrights::MOST_STEPS, 8);
+    let state = row();
+    for area in 0..=8 {
         assert_eq!(state.access(area.into(), 63), Ok(Some(area)));
     }
-    assert_eq!(state.step([12, 0, 0, 63]), Err(Refusal::WouldLoseAccess), "the lost pairs are up to 30 steps off");
+    assert_eq!(state.access(9, 63), Ok(None));
+}
+
+#[test]
+fn imports_and_exports_by_8_steps_and_by_9() {
+    let mut state = row();
+    obey(&mut state, &[[9, 0, 8, 63]]);
+    for kind in [Kind::AddImport { area: 9, object: 63 }, Kind::AddExport { area: 9, object: 63 }] {
+        assert_eq!(state.step(kind.by(0)), Err(Refusal::WouldLackAccess), "{kind:?}");
+    }
+    // Area 0 lies in area 2 too: area 9 is at 8 steps, and the short cut must stay as long as it has an entry.
+    obey(&mut state, &[[5, 0, 0, 2], [9, 0, 9, 63], [11, 0, 9, 63]]);
+    assert_eq!(state.access(9, 63), Ok(Some(8)));
+    assert_eq!(state.step([6, 0, 0, 2]), Err(Refusal::WouldLoseAccess));
+    obey(&mut state, &[[12, 0, 9, 63], [10, 0, 9, 63], [6, 0, 0, 2]]);
+    assert_eq!(state.access(9, 63), Ok(None));
+}
+
+/// Area 10 is a way round the pair (0, 1), a step longer: areas 1 to 7 keep their access over it, and area 8 would be
+/// at 9 steps.
+#[test]
+fn removals_with_a_way_round_of_8_steps_and_of_9() {
+    let mut state = row();
+    obey(&mut state, &[[1, 0, 10, 0], [5, 0, 0, 10], [11, 0, 10, 63], [5, 0, 10, 1]]);
+    assert_eq!(state.step([6, 0, 0, 1]), Err(Refusal::WouldLoseAccess), "area 8 exports");
+    obey(&mut state, &[[12, 0, 8, 63], [9, 0, 8, 63]]);
+    assert_eq!(state.step([6, 0, 0, 1]), Err(Refusal::WouldLoseAccess), "area 8 imports");
+    obey(&mut state, &[[10, 0, 8, 63], [6, 0, 0, 1]]);
+    assert_eq!(state.access(7, 63), Ok(Some(8)));
+    assert_eq!(state.access(8, 63), Ok(None));
+}
+
+/// An import that is written into a kept record.
+#[test]
+fn records_with_an_import_by_8_steps_and_by_9() {
+    let written = |area: usize| {
+        let mut record = row().as_record().to_vec();
+        record[4224 + 63 * 32 + area] = 1;
+        State::from_record(&record)
+    };
+    assert_eq!(written(8).unwrap().access(8, 63), Ok(Some(8)));
+    assert_eq!(written(9), Err(Refusal::UnsoundState));
 }
 
 #[test]

@@ -79,12 +79,6 @@ pub answer-is-right : Claims.AnswerIsRight
 unfolding answer
 answer-is-right l a = answer-within-is-right (l .definedIn) (step l) longest a
 
-pub no-access-is-no-chain : Claims.NoAccessIsNoChain
-unfolding longest
-no-access-is-no-chain l a e n c =
-    let s = short-chains (l .definedIn) (step l) n a c in
-    subst (Right l a) e (answer-is-right l a) (s .0) (omega (arith, s .1)) (s .2)
-
 -- two answers that are right up to n steps are one
 one-within : (start : ℕ → Bool) (move : ℕ → ℕ → Bool) (n a : ℕ) (x y : Answer) → RightWithin start move n a x → RightWithin start move n a y → x ≡ y
 one-within start move n a (Steps k) (Steps m) p q = ap Steps (le-antisymm (p .shortest .least m (q .shortest .chain)) (q .shortest .least k (p .shortest .chain)))
@@ -94,6 +88,13 @@ one-within start move n a NoAccess NoAccess p q = refl
 
 pub one-answer : Claims.OneAnswer
 one-answer l a = one-within (l .definedIn) (step l) longest a
+
+pub no-access-exactly : Claims.NoAccessExactly
+unfolding longest
+no-access-exactly l a = (
+  λ e. subst (Right l a) e (answer-is-right l a),
+  one-answer l a (answer l a) NoAccess (answer-is-right l a),
+)
 
 -- ---- access
 -- an area is reached within n steps where the answer up to n is a number of steps
@@ -117,12 +118,7 @@ access-is-short-chain l a = (
 
 pub access-is-chain : Claims.AccessIsChain
 unfolding longest
-access-is-chain l a = (
-  λ t. let c = access-is-short-chain l a .0 t in (c .0, c .2),
-  λ r.
-      let s = short-chains (l .definedIn) (step l) (r .0) a (r .1) in
-      access-is-short-chain l a .1 (s .0, omega (arith, s .1), s .2),
-)
+access-is-chain = access-is-short-chain
 
 pub never-above : Claims.NeverAbove
 unfolding longest

@@ -1,5 +1,5 @@
 -- The answer to the access question for an area and an object, as a definition that can be computed. That it is the
--- least number of steps, or that there is no chain, is claimed in Claims.antt.
+-- least number of steps, or that no chain is within the limit, is claimed in Claims.antt.
 use Prim.Native.Nat.{ℕ, zero, suc}
 use mathlib.Core.Bool.{Bool, false, _||_, cond}
 use mathlib.Core.List.{List}
@@ -11,10 +11,10 @@ use Rattle.access.specs.Lending.{Lending, step}
 use Rattle.access.specs.declared.Answer.{Answer}
 use Rattle.access.specs.declared.Answer.the-variants.{Steps, NoAccess}
 
--- "never above 31": how many steps are looked at. There being 32 areas, no shortest chain is longer (Laws.antt,
--- ShortChains).
+-- "a table may be lent across at most 8 steps. Access now means a chain of 8 steps or fewer, everywhere: the question,
+-- imports, removals and files." (document 02, point 2)
 unfoldable pub longest : ℕ
-longest = 31
+longest = 8
 
 -- A set of areas: a truth value for each, from area 0 on.
 abbrev pub Areas : Type 0
@@ -47,13 +47,14 @@ unfoldable pub answerWithin : (ℕ → Bool) → (ℕ → ℕ → Bool) → ℕ 
 answerWithin start move zero a = cond (has (reached start move zero) a) (Steps 0) NoAccess
 answerWithin start move (suc n) a = nextAnswer (answerWithin start move n a) n (has (reached start move (suc n)) a)
 
--- "the number of steps in a shortest chain, 0 for the defining area and never above 31", or "no access"
+-- "the number of steps in a shortest chain, 0 for the defining area", or "no access"; "The step answer never passes 8."
 unfoldable pub answer : Lending → ℕ → Answer
 answer l a = answerWithin (l .definedIn) (step l) longest a
 
--- "An area has access to an object if it defines it or a chain of steps leads to it from the defining area": the claim
--- AccessIsChain. Access is where the answer is a number of steps: the claim AccessIsSteps. It is defined apart from the
--- answer, which computes the areas that are reached anew for each number of steps.
+-- "An area has access to an object if it defines it or a chain of steps leads to it from the defining area", now "a
+-- chain of 8 steps or fewer": the claim AccessIsChain. Access is where the answer is a number of steps: the claim
+-- AccessIsSteps. It is defined apart from the answer, which computes the areas that are reached anew for each number of
+-- steps.
 unfoldable pub access : Lending → ℕ → Bool
 access l a = has (reached (l .definedIn) (step l) longest) a
 

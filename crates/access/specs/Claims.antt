@@ -1,4 +1,4 @@
--- What is claimed of access, in the paper's words. Each claim is a type, which proofs/Laws.antt inhabits under the
+-- What is claimed of access, in the papers' words. Each claim is a type, which proofs/Laws.antt inhabits under the
 -- claim's name. The layers above cite these claims and those of Laws.antt, and unfold no definition of this crate; the
 -- computed examples of document 01 (crate `guarantees`) are the one exception.
 use Prim.Native.Nat.{ℕ, _≤_, _<_}
@@ -41,18 +41,18 @@ OneAnswer = (l : Lending) (a : ℕ) (x y : Answer) → Right l a x → Right l a
 abbrev pub DefinerInNoStep : Type 0
 DefinerInNoStep = (l : Lending) (a : ℕ) → a < limit area → T (l .definedIn a) → answer l a ≡ Steps 0
 
--- "never above 31"
+-- "The step answer never passes 8." (document 02, point 2)
 abbrev pub NeverAbove : Type 0
-NeverAbove = (l : Lending) (a n : ℕ) → answer l a ≡ Steps n → n ≤ 31
+NeverAbove = (l : Lending) (a n : ℕ) → answer l a ≡ Steps n → n ≤ 8
 
--- 'No access' means that no chain of any length leads to the area. This claim and the next hold because the limit is
--- 31: there are 32 areas, so a shortest chain has no more steps (Laws, ShortChains).
-abbrev pub NoAccessIsNoChain : Type 0
-NoAccessIsNoChain = (l : Lending) (a : ℕ) → answer l a ≡ NoAccess → (n : ℕ) → ObjectChain l n a → ⊥
+-- 'No access' is the answer exactly where no chain of 8 steps or fewer leads to the area.
+abbrev pub NoAccessExactly : Type 0
+NoAccessExactly = (l : Lending) (a : ℕ) → (answer l a ≡ NoAccess) ↔ ((n : ℕ) → n ≤ 8 → ObjectChain l n a → ⊥)
 
--- "An area has access to an object if it defines it or a chain of steps leads to it from the defining area."
+-- "An area has access to an object if it defines it or a chain of steps leads to it from the defining area." "Access
+-- now means a chain of 8 steps or fewer" (document 02, point 2).
 abbrev pub AccessIsChain : Type 0
-AccessIsChain = (l : Lending) (a : ℕ) → T (access l a) ↔ ((n : ℕ) × ObjectChain l n a)
+AccessIsChain = (l : Lending) (a : ℕ) → T (access l a) ↔ ((n : ℕ) × (n ≤ 8) × ObjectChain l n a)
 
 -- ---- access and the answer are one: there is access where the answer is a number of steps
 abbrev pub isSteps : Answer → Bool

@@ -14,8 +14,8 @@ pub enum Answer {
     NoAccess,
 }
 
-// How many steps are looked at: with 32 areas no shortest chain is longer.
-const LONGEST: u8 = 31;
+// How many steps are looked at: a longer chain gives no access.
+const LONGEST: u8 = 8;
 
 // The count of an area that is not reached.
 const UNREACHED: u8 = 255;

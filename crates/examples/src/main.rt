@@ -25,7 +25,7 @@ const EXPORT: u32 = 6_000_000; // object x is exported by area y
 
 const ASK: u32 = 7_000_000; // in how many steps has area x access to object y?
 
-const CASES: [u32; 81] = [
+const CASES: [u32; 91] = [
     // Areas 1 and 0 lie in area 2, and area 1 defines object 9. Area 0 would import it, and nobody exports.
     FOUNDING + 1_000,
     ADD_STRUCTURE + 1_002,
@@ -79,26 +79,37 @@ const CASES: [u32; 81] = [
     ASK + 2_009,
     EXPORT + 9_003,
     ASK + 2_009,
-    // Object 9 goes outward through all areas, object 10 inward.
+    // Object 9 goes outward through all areas, object 10 inward: 8 steps are access, and 9 are none.
     CHAIN + 7_000,
     DEFINE + 9_000,
     DEFINE + 10_031,
     ASK + 0_009,
-    ASK + 15_009,
+    ASK + 7_009,
+    ASK + 8_009,
+    ASK + 9_009,
     ASK + 31_009,
     ASK + 31_010,
+    ASK + 24_010,
+    ASK + 23_010,
+    ASK + 22_010,
     ASK + 0_010,
-    // The chain is cut between areas 14 and 15; then there is a shorter way, from area 0 to area 20.
+    // The chain is cut between areas 4 and 5. Then area 0 lies in area 23 too: 9 steps to area 31 for object 9, and 9
+    // from there for object 10; then in area 24, and either has 8.
     CHAIN + 8_000,
     DEFINE + 9_000,
     DEFINE + 10_031,
-    REMOVE_STRUCTURE + 14_015,
-    ASK + 14_009,
-    ASK + 31_009,
-    ASK + 15_010,
+    REMOVE_STRUCTURE + 4_005,
+    ASK + 4_009,
+    ASK + 8_009,
     ASK + 0_010,
-    ADD_STRUCTURE + 0_020,
+    ADD_STRUCTURE + 0_023,
+    ASK + 30_009,
     ASK + 31_009,
+    ASK + 0_010,
+    ADD_STRUCTURE + 0_024,
+    ASK + 30_009,
+    ASK + 31_009,
+    ASK + 0_010,
     // Areas 5 and 6 lie in themselves, import and export, and area 5 defines.
     FOUNDING + 9_000,
     ADD_STRUCTURE + 5_005,
@@ -140,8 +151,8 @@ fn early_title(number: u8) {
 fn late_title(number: u8) {
     match number {
         6 => print(b"import does not go outward, export does\n"),
-        7 => print(b"a chain of 31 steps, both ways\n"),
-        8 => print(b"the chain cut far away, and a shorter way\n"),
+        7 => print(b"a chain through all areas, both ways\n"),
+        8 => print(b"the chain cut, and ways of 9 steps and of 8\n"),
         9 => print(b"an area in itself\n"),
         _ => print(b"numbers past the limits\n"),
     }
@@ -225,7 +236,7 @@ fn after(s: State, command: u32) -> State {
 fn run_cases() {
     let cases = CASES;
     let mut s = State::founding();
-    for i in 0..81usize {
+    for i in 0..91usize {
         let next = after(s, cases[i]);
         s = next;
     }

@@ -49,6 +49,21 @@ impl Draft {
         }
     }
 
+    /// The state that the tables stand for.
+    pub fn state(&self) -> State {
+        let relation = |table: usize| self.tables[table].iter().map(|pair| (pair[0], pair[1])).collect();
+        State {
+            users: self.tables[OWNERS].iter().map(|pair| pair[0]).collect(),
+            areas: self.areas().into_iter().collect(),
+            objects: self.objects().into_iter().collect(),
+            owners: relation(OWNERS),
+            definitions: relation(DEFINITIONS),
+            structure: relation(STRUCTURE),
+            imports: relation(IMPORTS),
+            exports: relation(EXPORTS),
+        }
+    }
+
     /// The areas in owner pairs.
     pub fn areas(&self) -> Vec<u8> {
         self.tables[OWNERS].iter().map(|pair| pair[1]).collect()

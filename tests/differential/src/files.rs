@@ -1,14 +1,16 @@
 //! Site files, right and damaged, and the labels in them.
 
+use crate::borders::{entry_lengths, is_one_step_too_far, is_small};
 use crate::byte_damage::BYTE_DAMAGES;
 use crate::case::Case;
+use crate::chains::MOST_STEPS;
 use crate::draft::{random_labels, random_text, Draft};
 use crate::numbers::widened;
 use crate::seen::Seen;
 use crate::shards::Plan;
 use crate::site::OTHER_LENGTHS;
 use crate::states::{sound_state, Shape};
-use crate::table_damage::TABLE_DAMAGES;
+use crate::table_damage::{entry_too_far, TABLE_DAMAGES};
 use chance::Chance;
 use reference::{Labels, State, RECORD_BYTES};
 
@@ -16,8 +18,9 @@ use reference::{Labels, State, RECORD_BYTES};
 const STATES: usize = 1250;
 const FILES: usize = 10;
 
-/// How many of a shard's files are the largest that there is, or nearly.
+/// How many of a shard's files are the largest that there is, or nearly; and how many are made for an entry at 9 steps.
 const LARGEST: usize = 6;
+const TOO_FAR: usize = 150;
 
 pub fn run(plan: &Plan) -> (String, Seen) {
     let mut seen = plan.run("files", |_, chance, seen| {
@@ -29,18 +32,24 @@ pub fn run(plan: &Plan) -> (String, Seen) {
         }
         let (state, labels) = largest(chance);
         (0..LARGEST).for_each(|_| one_file(&state, &labels, chance, seen));
+        (0..TOO_FAR).for_each(|_| file_too_far(chance, seen));
     });
     seen.require("read", [0], 5000);
     seen.require("read", 21..=29, 200);
     seen.require("read", [31], 200);
     seen.require("table damage", 0..TABLE_DAMAGES.len() as u32, 200);
     seen.require("byte damage", 0..BYTE_DAMAGES.len() as u32, 200);
+    seen.require("file with an entry at 8 steps", [0], 1000);
+    seen.require("file with an entry too far", [29], 300);
     seen.require("label above 255", [0], 5000);
     seen.require("labelled but for 256 or more", [0], 2000);
     let line = format!(
-        "{} files, answers 0, 21 to 29, 31: {:?}; {} labels asked for, {} found, {} for an area above 255",
+        "{} files, answers 0, 21 to 29, 31: {:?}; accepted with an entry at 8 steps: {}, with nothing wrong but an \
+         entry at 9 steps: {}; {} labels asked for, {} found, {} for an area above 255",
         seen.total("read"),
         seen.each("read", [0].into_iter().chain(21..=29).chain([31])),
+        seen.times("file with an entry at 8 steps", 0),
+        seen.times("file with an entry too far", 29),
         seen.total("label"),
         seen.total("label") - seen.times("label", 0),
         seen.total("label above 255"),
@@ -50,10 +59,10 @@ pub fn run(plan: &Plan) -> (String, Seen) {
 
 fn shape(chance: &mut Chance) -> Shape {
     match chance.below(100) {
-        0..70 => Shape::Sparse,
-        70..80 => Shape::Medium,
-        80..87 => Shape::Chain,
-        87..99 => Shape::Ring,
+        0..60 => Shape::Sparse,
+        60..68 => Shape::Medium,
+        68..84 => Shape::Chain,
+        84..99 => Shape::Ring,
         _ => Shape::Dense,
     }
 }
@@ -84,7 +93,8 @@ fn one_file(state: &State, labels: &Labels, chance: &mut Chance, seen: &mut Seen
         seen.count("table damage", damage as u32);
     }
     let mut file = draft.bytes();
-    for _ in 0..chance.pick(&[0, 0, 0, 0, 1, 1, 2]) {
+    let byte_damages = chance.pick(&[0, 0, 0, 0, 1, 1, 2]);
+    for _ in 0..byte_damages {
         let damage = chance.below(BYTE_DAMAGES.len());
         BYTE_DAMAGES[damage](&mut file, chance);
         seen.count("byte damage", damage as u32);
@@ -92,13 +102,49 @@ fn one_file(state: &State, labels: &Labels, chance: &mut Chance, seen: &mut Seen
     if chance.once_in(40) {
         seen.compare(&Case::read(&file, chance.pick(&OTHER_LENGTHS)));
     }
-    compare_file(&file, labels, chance, seen);
+    let read = compare_file(&file, labels, chance, seen);
+    if let (Some(answer), 0) = (read, byte_damages) {
+        count_about_the_limit(&draft, answer, seen);
+    }
 }
 
-/// The reader, and the label finder: for every area in some files, for two in the others; and for an area above 255.
-fn compare_file(file: &[u8], labels: &Labels, chance: &mut Chance, seen: &mut Seen) {
-    let read = seen.compare(&Case::read(file, RECORD_BYTES));
-    if read.is_some_and(|answer| answer.number == 0) {
+/// The file of areas in a row or in a circle, with nothing wrong but an entry at 9 steps, if there is room for one.
+fn file_too_far(chance: &mut Chance, seen: &mut Seen) {
+    let state = sound_state(chance.pick(&[Shape::Chain, Shape::Ring]), chance);
+    let labels = random_labels(&state, chance);
+    let mut draft = Draft::new(&state, &labels);
+    entry_too_far(&mut draft, chance);
+    if let Some(answer) = compare_file(&draft.bytes(), &labels, chance, seen) {
+        count_about_the_limit(&draft, answer, seen);
+    }
+}
+
+/// Counts a file that is as drafted: accepted with an entry at 8 steps, or refused for nothing but entries at 9.
+fn count_about_the_limit(draft: &Draft, answer: u32, seen: &mut Seen) {
+    let state = draft.state();
+    if is_small(&state) {
+        return;
+    }
+    let at_8_steps = || {
+        entry_lengths(&state)
+            .into_values()
+            .any(|steps| steps == Some(MOST_STEPS))
+    };
+    if answer == 0 && at_8_steps() {
+        seen.count("file with an entry at 8 steps", answer);
+    }
+    if answer == 29 && is_one_step_too_far(&state) {
+        seen.count("file with an entry too far", answer);
+    }
+}
+
+/// The reader, whose answer it gives, and the label finder: for every area in some files, for two in the others; and
+/// for an area above 255.
+fn compare_file(file: &[u8], labels: &Labels, chance: &mut Chance, seen: &mut Seen) -> Option<u32> {
+    let read = seen
+        .compare(&Case::read(file, RECORD_BYTES))
+        .map(|answer| answer.number);
+    if read == Some(0) {
         let again = reference::read_file(file).map(|(state, labels)| reference::write_file(&state, &labels));
         seen.demand(
             again.as_deref() == Ok(file),
@@ -114,6 +160,7 @@ fn compare_file(file: &[u8], labels: &Labels, chance: &mut Chance, seen: &mut Se
         seen.compare(&Case::label(file, area));
     }
     compare_label_above(file, widened(chance.pick(&labelled), 1, chance), seen);
+    read
 }
 
 /// The label finder for an area above 255.

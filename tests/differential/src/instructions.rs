@@ -1,5 +1,6 @@
 //! Random instructions for a state: most of them fit it, so that every refusal and every code comes often.
 
+use crate::aimed;
 use crate::numbers::{firsts_with, free, members, pick_or, seconds_with};
 use chance::Chance;
 use reference::State;
@@ -29,9 +30,17 @@ impl Domain<'_> {
     }
 }
 
-/// An instruction of one of the activators that mostly names what is there, and now and then something else.
+/// An instruction of one of the activators that mostly names what is there, and now and then something else. At times
+/// one for the sake of the limit on steps.
 pub fn instruction(state: &State, domain: &Domain, chance: &mut Chance) -> [u8; 4] {
-    let mut bytes = fitting(state, domain, chance);
+    let aimed = match chance.once_in(6) {
+        true => aimed::instruction(state, domain.activators, chance),
+        false => None,
+    };
+    let mut bytes = match aimed {
+        Some(bytes) => bytes,
+        None => fitting(state, domain, chance),
+    };
     if chance.once_in(6) {
         bytes[chance.pick(&[0, 2, 3])] = any_number(chance);
     }

@@ -2,7 +2,9 @@
 //! silent.
 
 use crate::answer::Answer;
+use crate::borders::{is_small, pairs_at};
 use crate::case::Case;
+use crate::chains::Lengths;
 use crate::instructions::{any_bytes, instruction, Domain};
 use crate::library;
 use crate::numbers::{firsts_with, members};
@@ -14,10 +16,11 @@ use chance::Chance;
 use reference::State;
 
 /// For each shape, how many lists a shard has.
-const LISTS: [(Shape, usize); 5] = [
-    (Shape::Sparse, 900),
-    (Shape::Ring, 800),
-    (Shape::Chain, 250),
+const LISTS: [(Shape, usize); 6] = [
+    (Shape::Sparse, 800),
+    (Shape::Ring, 600),
+    (Shape::BothWays, 200),
+    (Shape::Chain, 450),
     (Shape::Medium, 250),
     (Shape::Dense, 3),
 ];
@@ -34,32 +37,58 @@ pub fn run(plan: &Plan) -> (String, Seen) {
     seen.require("silent area with entries", [0], 5000);
     seen.require("changed", [0], 5000);
     seen.require("instruction", 0..=11, 500);
+    seen.require("silent at", 7..=9, 500);
+    seen.require("silent and moved from", 7..=9, 150);
     let line = format!(
         "{} lists, {} of them with a change; instructions, answers 0 to 11: {:?}; \
-         areas with no owner among the activators: {}, {} of them with imports or exports",
+         areas with no owner among the activators: {}, {} of them with imports or exports; \
+         imports or exports of theirs at 7, 8 steps, and objects at 9: {:?}, at another number after the list: {:?}",
         seen.total("list"),
         seen.times("changed", 0),
         seen.each("instruction", 0..=11),
         seen.times("silent area", 0),
         seen.times("silent area with entries", 0),
+        seen.each("silent at", 7..=9),
+        seen.each("silent and moved from", 7..=9),
     );
     (line, seen)
 }
 
 fn one_list(shape: Shape, chance: &mut Chance, seen: &mut Seen) {
-    let (start, silent) = start(shape, chance);
-    let list = list_without(&start, silent, chance, seen);
+    let (start, area) = start(shape, chance);
+    let list = list_without(&start, area, chance, seen);
     let acts = |area: u8| list.iter().any(|bytes| start.owners.contains(&(bytes[1], area)));
-    for &area in start.areas.iter().filter(|&&area| !acts(area)) {
+    let silent: Vec<u8> = start.areas.iter().copied().filter(|&area| !acts(area)).collect();
+    for &area in &silent {
         seen.count("silent area", 0);
         if entries(&start).any(|entry| entry.1 == area) {
             seen.count("silent area with entries", 0);
         }
     }
-    let site = Site::of_state(start);
-    if let Some(answer) = seen.compare(&Case::list(&site, &list)) {
-        if answer.bytes != site.record {
-            seen.count("changed", 0);
+    let site = Site::of_state(start.clone());
+    let Some(answer) = seen.compare(&Case::list(&site, &list)) else {
+        return;
+    };
+    if answer.bytes != site.record {
+        seen.count("changed", 0);
+    }
+    if let Some(end) = reference::from_record(&answer.bytes) {
+        count_about_the_limit(&start, &silent, &end, seen);
+    }
+}
+
+/// Counts what silent areas import or export at 7 or 8 steps, and the objects that are at 9 steps from them.
+fn count_about_the_limit(start: &State, silent: &[u8], end: &State, seen: &mut Seen) {
+    for &object in start.objects.iter().filter(|_| !is_small(start)) {
+        let (before, after) = (Lengths::new(start, object), Lengths::new(end, object));
+        for &area in silent {
+            let has_entry = entries(start).any(|&entry| entry == (object, area));
+            if let (Some(steps @ 7..=8), true) | (Some(steps @ 9), false) = (before.to(area), has_entry) {
+                seen.count("silent at", steps.into());
+                if after.to(area) != Some(steps) {
+                    seen.count("silent and moved from", steps.into());
+                }
+            }
         }
     }
 }
@@ -68,15 +97,20 @@ fn entries(state: &State) -> impl Iterator<Item = &(u8, u8)> {
     state.imports.iter().chain(&state.exports)
 }
 
-/// A sound state, and the area whose owners are to be silent: mostly one with imports or exports, and with a user who
-/// does not own it.
+/// A sound state, and the area whose owners are to be silent: mostly one with imports or exports, often one at 7 to 9
+/// steps, and mostly with a user who does not own it.
 fn start(shape: Shape, chance: &mut Chance) -> (State, u8) {
     loop {
         let state = sound_state(shape, chance);
         let all = members(&state.areas);
         let with_entries: Vec<u8> = entries(&state).map(|entry| entry.1).collect();
-        let any = with_entries.is_empty() || chance.once_in(5);
-        let area = chance.pick(if any { &all } else { &with_entries });
+        let far: Vec<u8> = pairs_at(&state, 7..=9).iter().map(|pair| pair.1).collect();
+        let areas = match chance.below(5) {
+            1..3 if !far.is_empty() => &far,
+            1..5 if !with_entries.is_empty() => &with_entries,
+            _ => &all,
+        };
+        let area = chance.pick(areas);
         let owned_by_all = state.users.iter().all(|&user| state.owners.contains(&(user, area)));
         if !owned_by_all || chance.once_in(20) {
             return (state, area);

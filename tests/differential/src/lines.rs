@@ -1,7 +1,9 @@
 //! Inputs of PanelRights: sessions of lines that fit, and every kind of line that is unreadable.
 
+use crate::borders::count_step;
 use crate::instructions::{instruction, Domain};
 use crate::numbers::members;
+use crate::seen::Seen;
 use chance::Chance;
 use reference::State;
 
@@ -117,11 +119,31 @@ impl Session {
         instruction(&self.state, &domain, chance)
     }
 
+    /// Areas 0 to 11, each in the next, and an object that is lent on from one end up to an area at 9 steps.
+    pub fn add_row(&mut self, chance: &mut Chance, seen: &mut Seen) {
+        (1..=11).for_each(|area| self.add([1, 0, area, 0], seen));
+        (0..11).for_each(|area| self.add([5, 0, area, area + 1], seen));
+        if chance.once_in(2) {
+            self.add([7, 0, 0, 0], seen);
+            (0..10).for_each(|area| self.add([11, 0, area, 0], seen));
+        } else {
+            self.add([7, 0, 11, 0], seen);
+            (2..11).rev().for_each(|area| self.add([9, 0, area, 0], seen));
+        }
+    }
+
     /// A line with an instruction that mostly fits.
-    pub fn add_instruction(&mut self, chance: &mut Chance) {
-        let bytes = self.numbers(chance);
-        if let Ok(next) = reference::step(&self.state, bytes) {
-            self.state = next;
+    pub fn add_instruction(&mut self, chance: &mut Chance, seen: &mut Seen) {
+        self.add(self.numbers(chance), seen);
+    }
+
+    fn add(&mut self, bytes: [u8; 4], seen: &mut Seen) {
+        match reference::step(&self.state, bytes) {
+            Ok(next) => {
+                count_step(&self.state, bytes, 0, seen);
+                self.state = next;
+            }
+            Err(refusal) => count_step(&self.state, bytes, refusal.into(), seen),
         }
         self.add_line(&joined(bytes.map(|number| number.to_string())));
     }

@@ -6,10 +6,13 @@
 
 #![deny(unsafe_code)]
 
+mod aimed;
 mod answer;
 mod basics;
+mod borders;
 mod byte_damage;
 mod case;
+mod chains;
 mod difference;
 mod draft;
 mod exhaustive;

@@ -41,15 +41,20 @@ pub fn run(plan: &Plan) -> (String, Seen) {
     seen.require("unreadable", 0..UNREADABLE.len() as u32, 100);
     seen.require("last line without byte 10", [0], 50);
     seen.require("length", LENGTHS, 3);
+    seen.require("import, steps and answer", [800, 910], 20);
+    seen.require("export, steps and answer", [800, 910], 20);
     let times = |(kind, (name, _))| format!("{name} {}", seen.times("unreadable", kind));
     let kinds: Vec<String> = (0..).zip(UNREADABLE).map(times).collect();
     let line = format!(
-        "{} inputs, {} lines; unreadable: {}; last lines without byte 10: {}; inputs of {LENGTHS:?} bytes: {:?}",
+        "{} inputs, {} lines; unreadable: {}; last lines without byte 10: {}; inputs of {LENGTHS:?} bytes: {:?}; \
+         imports at 8, 9 steps: {:?}, exports: {:?}",
         seen.total("program"),
         seen.total("line"),
         kinds.join(", "),
         seen.total("last line without byte 10"),
         seen.each("length", LENGTHS),
+        seen.each("import, steps and answer", [800, 910]),
+        seen.each("export, steps and answer", [800, 910]),
     );
     (line, seen)
 }
@@ -65,16 +70,20 @@ fn compare(input: &[u8], seen: &mut Seen) {
     seen.compare(&Case::program(input));
 }
 
-/// Up to 200 lines, some unreadable; once in four times the last lacks its byte 10.
+/// Up to 200 lines, some unreadable; once in four times the last lacks its byte 10. In some there is a row of areas in
+/// front.
 fn short_session(chance: &mut Chance, seen: &mut Seen) {
     let mut session = Session::new();
+    if chance.once_in(3) {
+        session.add_row(chance, seen);
+    }
     for _ in 0..chance.below(200) {
         if chance.once_in(8) {
             let kind = chance.below(UNREADABLE.len());
             session.add_unreadable(kind, chance);
             seen.count("unreadable", kind as u32);
         } else {
-            session.add_instruction(chance);
+            session.add_instruction(chance, seen);
         }
     }
     if chance.once_in(4) {
@@ -86,7 +95,7 @@ fn short_session(chance: &mut Chance, seen: &mut Seen) {
 /// Behind one other line; the transcript must have a 13 for it.
 fn unreadable_line_alone(kind: usize, chance: &mut Chance, seen: &mut Seen) {
     let mut session = Session::new();
-    session.add_instruction(chance);
+    session.add_instruction(chance, seen);
     session.add_unreadable(kind, chance);
     seen.count("unreadable", kind as u32);
     let printed = reference::transcript(&session.input);
@@ -101,7 +110,7 @@ fn unreadable_line_alone(kind: usize, chance: &mut Chance, seen: &mut Seen) {
 fn long_session(length: usize, chance: &mut Chance, seen: &mut Seen) {
     let mut session = Session::new();
     while session.input.len() < length - 100 {
-        session.add_instruction(chance);
+        session.add_instruction(chance, seen);
     }
     session.fill_up(length);
     compare(&session.input, seen);

@@ -1,5 +1,7 @@
 //! Random steps over random states, and records that are none or not sound.
 
+use crate::aimed;
+use crate::borders;
 use crate::case::Case;
 use crate::instructions::instruction_of_anyone;
 use crate::numbers::{members, widened};
@@ -7,18 +9,23 @@ use crate::seen::Seen;
 use crate::shards::Plan;
 use crate::site::{Site, OTHER_LENGTHS};
 use crate::states::{sound_state, Shape};
-use crate::unsound::turned;
+use crate::unsound::{one_step_too_far, turned};
 use chance::Chance;
 use reference::{State, RECORD_BYTES};
 
 /// For each shape, how many walks a shard has, and how many steps each of them. Dense states are dear in the reference.
-const WALKS: [(Shape, usize, usize); 5] = [
+const WALKS: [(Shape, usize, usize); 6] = [
     (Shape::Sparse, 500, 40),
     (Shape::Medium, 200, 40),
     (Shape::Chain, 250, 25),
-    (Shape::Ring, 250, 40),
+    (Shape::Ring, 250, 35),
+    (Shape::BothWays, 50, 25),
     (Shape::Dense, 16, 25),
 ];
+
+/// How many states a shard has for instructions about the limit on steps, and how many of these are tried in each.
+const AIMED: usize = 300;
+const AIMED_STEPS: usize = 8;
 
 /// For each shape, how many states a shard has that the access question is asked of for every area and object.
 const QUESTIONED: [(Shape, usize); 4] = [
@@ -31,8 +38,9 @@ const QUESTIONED: [(Shape, usize); 4] = [
 /// How many listed areas and objects are asked about at the end of a walk.
 const QUESTIONS: usize = 4;
 
-/// How many records a shard has with some places turned, and how many of another length.
+/// How many records a shard has with some places turned, with an entry at 9 steps, and of another length.
 const TURNED: usize = 2000;
+const TOO_FAR: usize = 200;
 const MISSIZED: usize = 200;
 
 const UNSOUND: u32 = 12;
@@ -58,34 +66,69 @@ pub fn run(plan: &Plan) -> (String, Seen) {
         for (shape, walks, steps) in WALKS {
             (0..walks).for_each(|_| walk(sound_state(shape, chance), steps, chance, seen));
         }
+        (0..AIMED).for_each(|_| aimed_steps(chance, seen));
         (0..TURNED).for_each(|_| turned_record(chance, seen));
+        (0..TOO_FAR).for_each(|_| too_far_record(chance, seen));
         (0..MISSIZED).for_each(|_| missized_record(chance, seen));
         every_place(chance, seen);
         for (shape, states) in QUESTIONED {
             (0..states).for_each(|_| every_question(sound_state(shape, chance), seen));
         }
     });
+    require(&mut seen);
+    let line = format!("{}; {}", answers(&seen), about_the_limit(&seen));
+    (line, seen)
+}
+
+fn require(seen: &mut Seen) {
     seen.require("step", 0..=12, 500);
-    seen.require("access", (0..=31).chain([255, 258, 260, 268]), 10);
+    seen.require("access", (0..=8).chain([255, 258, 260, 268]), 300);
     seen.require("listed but for 256 or more", [258], 500);
     seen.require("question above 255", [258, 268], 500);
     seen.require("questioned states", [0], 500);
     for (code, answers) in ANSWERS {
         seen.require("code and answer", answers.iter().map(|answer| code * 100 + answer), 100);
     }
-    let line = format!(
+    seen.require("question, steps and answer", [7007, 8008, 9255], 300);
+    seen.require("import, steps and answer", [800, 910], 300);
+    seen.require("export, steps and answer", [800, 910], 300);
+    seen.require("removal leaves 8 steps", [6, 10, 12], 100);
+    seen.require("removal would leave 9 steps", [6, 10, 12], 100);
+    seen.require("removal would leave more than 9 steps", [6, 10, 12], 100);
+    seen.require("removal would leave one area too far", [6, 10, 12], 100);
+    seen.require("one step too far", [12, 268], 300);
+}
+
+fn answers(seen: &Seen) -> String {
+    format!(
         "{} steps, answers 0 to 12: {:?}; {} access questions, all there are for {} states, \
-         answers 0 to 31: {:?}, no access: {}, refused 2, 4, 12: {:?}; {} with a number above 255",
+         answers 0 to 8: {:?}, no access: {}, refused 2, 4, 12: {:?}; {} with a number above 255",
         seen.total("step"),
         seen.each("step", 0..=12),
         seen.total("access"),
         seen.total("questioned states"),
-        seen.each("access", 0..=31),
+        seen.each("access", 0..=8),
         seen.times("access", 255),
         seen.each("access", [258, 260, 268]),
         seen.total("question above 255"),
-    );
-    (line, seen)
+    )
+}
+
+fn about_the_limit(seen: &Seen) -> String {
+    let by_code = |what: &'static str| seen.each(what, [6, 10, 12]);
+    format!(
+        "areas at 7, 8, 9 steps asked about: {:?}; imports at 8, 9 steps: {:?}, exports: {:?}; \
+         removals by codes 6, 10, 12 that leave 8 steps: {:?}, that would leave 9: {:?}, more: {:?}, \
+         and one area too far: {:?}; records and questions with nothing wrong but an entry at 9 steps: {:?}",
+        seen.each("question, steps and answer", [7007, 8008, 9255]),
+        seen.each("import, steps and answer", [800, 910]),
+        seen.each("export, steps and answer", [800, 910]),
+        by_code("removal leaves 8 steps"),
+        by_code("removal would leave 9 steps"),
+        by_code("removal would leave more than 9 steps"),
+        by_code("removal would leave one area too far"),
+        seen.each("one step too far", [12, 268]),
+    )
 }
 
 /// Steps one after the other, each in the state that the one before it left, and access questions at the end.
@@ -102,6 +145,7 @@ fn walk(start: State, steps: usize, chance: &mut Chance, seen: &mut Seen) {
             "every walk goes from one sound state to the next",
         );
         seen.count("code and answer", u32::from(instruction[0]) * 100 + answer.number);
+        borders::count_step(state, instruction, answer.number, seen);
         if answer.number == 0 {
             site = Site::of_bytes(answer.bytes);
         }
@@ -109,12 +153,32 @@ fn walk(start: State, steps: usize, chance: &mut Chance, seen: &mut Seen) {
     (0..QUESTIONS).for_each(|_| one_question(&site, chance, seen));
 }
 
-/// About a listed area and a listed object, and about two numbers that differ from them above the low byte.
+/// Instructions about the limit on steps, each in the same state.
+fn aimed_steps(chance: &mut Chance, seen: &mut Seen) {
+    let state = sound_state(chance.pick(&[Shape::Chain, Shape::BothWays]), chance);
+    let users = members(&state.users);
+    let site = Site::of_state(state.clone());
+    for _ in 0..AIMED_STEPS {
+        let Some(instruction) = aimed::instruction(&state, &users, chance) else {
+            continue;
+        };
+        if let Some(answer) = seen.compare(&Case::step(&site, instruction)) {
+            borders::count_step(&state, instruction, answer.number, seen);
+        }
+    }
+}
+
+/// About a listed area and a listed object, often at 7 to 9 steps, and about two numbers that differ from them above
+/// the low byte.
 fn one_question(site: &Site, chance: &mut Chance, seen: &mut Seen) {
     let Some(state) = &site.state else { return };
     let (areas, objects) = (members(&state.areas), members(&state.objects));
     if !areas.is_empty() && !objects.is_empty() {
-        let (area, object) = (chance.pick(&areas), chance.pick(&objects));
+        let far = borders::pairs_at(state, 7..=9);
+        let (object, area) = match far.is_empty() || chance.once_in(2) {
+            true => (chance.pick(&objects), chance.pick(&areas)),
+            false => chance.pick(&far),
+        };
         question(site, area.into(), object.into(), seen);
         question(site, widened(area, 2, chance), widened(object, 2, chance), seen);
     }
@@ -128,12 +192,18 @@ fn step_and_question(site: &Site, instruction: [u8; 4], chance: &mut Chance, see
 }
 
 fn question(site: &Site, area: u32, object: u32, seen: &mut Seen) {
-    let answer = seen.compare(&Case::access(site, area, object));
-    if let (Some(answer), true) = (answer, area > 255 || object > 255) {
-        seen.count("question above 255", answer.number);
+    let Some(answer) = seen.compare(&Case::access(site, area, object)) else {
+        return;
+    };
+    let answer = answer.number;
+    if area > 255 || object > 255 {
+        seen.count("question above 255", answer);
         if are_listed(site, area as u8, object as u8) {
-            seen.count("listed but for 256 or more", answer.number);
+            seen.count("listed but for 256 or more", answer);
         }
+    }
+    if let (Some(state), 0..256) = (&site.state, answer) {
+        borders::count_question(state, area as u8, object as u8, answer, seen);
     }
 }
 
@@ -155,6 +225,22 @@ fn turned_record(chance: &mut Chance, seen: &mut Seen) {
     let state = turned(&sound_state(shape, chance), chance);
     let instruction = instruction_of_anyone(&state, chance);
     step_and_question(&Site::of_state(state), instruction, chance, seen);
+}
+
+/// A state with nothing wrong but an import or export at 9 steps, in a step and in a question.
+fn too_far_record(chance: &mut Chance, seen: &mut Seen) {
+    let state = sound_state(chance.pick(&[Shape::Chain, Shape::Ring]), chance);
+    let Some(state) = one_step_too_far(&state, chance) else {
+        return;
+    };
+    let is_too_far = borders::is_one_step_too_far(&state);
+    let [code, user, area, object] = instruction_of_anyone(&state, chance);
+    let site = Site::of_state(state);
+    let step = seen.compare(&Case::step(&site, [code, user, area, object]));
+    let question = seen.compare(&Case::access(&site, area.into(), object.into()));
+    for answer in [step, question].into_iter().flatten().filter(|_| is_too_far) {
+        seen.count("one step too far", answer.number);
+    }
 }
 
 /// A sound record that goes on for too long, or ends too early.
@@ -187,7 +273,7 @@ fn every_question(state: State, seen: &mut Seen) {
     seen.count("questioned states", 0);
     for area in 0..=32 {
         for object in 0..=64 {
-            seen.compare(&Case::access(&site, area, object));
+            question(&site, area, object, seen);
         }
     }
 }

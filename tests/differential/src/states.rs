@@ -1,8 +1,10 @@
 //! Random sound states of several shapes.
 
+use crate::chains::MOST_STEPS;
 use crate::numbers::{some_of, Pairs};
 use chance::Chance;
 use reference::State;
+use std::collections::VecDeque;
 
 const AREAS: usize = 32;
 
@@ -17,6 +19,8 @@ pub enum Shape {
     Chain,
     /// Areas in a circle, some in themselves.
     Ring,
+    /// A circle, and objects that go both ways round it, so that a cut leaves a way that is longer.
+    BothWays,
 }
 
 /// How large a state is to be, and how full.
@@ -28,19 +32,23 @@ struct Size {
     owners: usize,
     /// Of a hundred chances to lend an object on: how many are taken.
     lending: usize,
+    /// Of a hundred imports or exports that areas with access can do without: how many are there.
+    spare: usize,
 }
 
 impl Size {
     fn new(shape: Shape, chance: &mut Chance) -> Size {
         let bounds = match shape {
-            Shape::Sparse => [(1, 4), (1, 5), (0, 4), (0, 40), (20, 90)],
-            Shape::Medium => [(2, 10), (6, 14), (2, 9), (0, 30), (30, 100)],
-            Shape::Dense => [(8, 32), (16, 32), (16, 64), (20, 100), (70, 100)],
-            Shape::Chain if chance.once_in(2) => [(1, 6), (32, 32), (1, 3), (0, 60), (100, 100)],
-            Shape::Chain => [(1, 6), (2, 31), (1, 3), (0, 60), (100, 100)],
-            Shape::Ring => [(1, 5), (1, 9), (1, 4), (0, 50), (60, 100)],
+            Shape::Sparse => [(1, 4), (1, 5), (0, 4), (0, 40), (20, 90), (17, 17)],
+            Shape::Medium => [(2, 10), (6, 14), (2, 9), (0, 30), (30, 100), (17, 17)],
+            Shape::Dense => [(8, 32), (16, 32), (16, 64), (20, 100), (70, 100), (17, 17)],
+            Shape::Chain if chance.once_in(2) => [(1, 6), (32, 32), (1, 3), (0, 60), (100, 100), (0, 30)],
+            Shape::Chain => [(1, 6), (2, 31), (1, 3), (0, 60), (100, 100), (0, 30)],
+            Shape::Ring if chance.once_in(3) => [(1, 5), (9, 32), (1, 4), (0, 50), (90, 100), (0, 100)],
+            Shape::Ring => [(1, 5), (1, 9), (1, 4), (0, 50), (60, 100), (17, 17)],
+            Shape::BothWays => [(1, 5), (9, 17), (1, 2), (0, 50), (100, 100), (90, 100)],
         };
-        let [users, areas, objects, owners, lending] =
+        let [users, areas, objects, owners, lending, spare] =
             bounds.map(|(least, most)| least + chance.below(most - least + 1));
         Size {
             users,
@@ -48,6 +56,7 @@ impl Size {
             objects,
             owners,
             lending,
+            spare,
         }
     }
 }
@@ -62,11 +71,17 @@ pub fn sound_state(shape: Shape, chance: &mut Chance) -> State {
     for object in some_of(64, size.objects, chance) {
         state.objects.insert(object);
         let definer = match shape {
-            Shape::Chain if !chance.once_in(4) => areas[0],
+            Shape::Chain if chance.once_in(4) => areas[0],
             _ => chance.pick(&areas),
         };
         state.definitions.insert((object, definer));
-        lend(&mut state, object, definer, size.lending, chance);
+        let with_access = lend(&mut state, object, definer, size.lending, chance);
+        state
+            .imports
+            .extend(random_pairs(&[object], &with_access, size.spare, chance));
+        state
+            .exports
+            .extend(random_pairs(&[object], &with_access, size.spare, chance));
     }
     state
 }
@@ -89,9 +104,9 @@ fn structure(shape: Shape, areas: &[u8], chance: &mut Chance) -> Pairs {
         Shape::Sparse => random_pairs(areas, areas, 30, chance),
         Shape::Medium => random_pairs(areas, areas, chance.pick(&[5, 10, 20]), chance),
         Shape::Dense => random_pairs(areas, areas, chance.pick(&[30, 60, 90, 100]), chance),
-        Shape::Chain | Shape::Ring => row(areas, chance),
+        Shape::Chain | Shape::Ring | Shape::BothWays => row(areas, chance),
     };
-    if let Shape::Ring = shape {
+    if let Shape::Ring | Shape::BothWays = shape {
         pairs.insert(either_way((areas[areas.len() - 1], areas[0]), chance));
         pairs.extend(areas.iter().filter(|_| chance.once_in(4)).map(|&area| (area, area)));
     }
@@ -105,12 +120,17 @@ fn random_pairs(firsts: &[u8], seconds: &[u8], percent: usize, chance: &mut Chan
     all.filter(|_| chance.below(100) < percent).collect()
 }
 
-/// Each area in the next, or the next in it; in half the rows all the same way.
+/// Each area in the next, or the next in it: all the same way, by turns, or any way.
 fn row(areas: &[u8], chance: &mut Chance) -> Pairs {
-    let mixed = chance.once_in(2);
-    let pairs = areas.windows(2).map(|two| (two[0], two[1]));
+    let kind = chance.below(3);
+    let pairs = areas.windows(2).map(|two| (two[0], two[1])).enumerate();
     pairs
-        .map(|pair| if mixed { either_way(pair, chance) } else { pair })
+        .map(|(place, (one, other))| match kind {
+            0 => (one, other),
+            1 if place % 2 == 0 => (one, other),
+            1 => (other, one),
+            _ => either_way((one, other), chance),
+        })
         .collect()
 }
 
@@ -118,36 +138,29 @@ fn either_way((one, other): (u8, u8), chance: &mut Chance) -> (u8, u8) {
     chance.pick(&[(one, other), (other, one)])
 }
 
-/// Lends the object on from its definer, step by step, so that each area with an entry has access.
-fn lend(state: &mut State, object: u8, definer: u8, percent: usize, chance: &mut Chance) {
-    let mut reached = [false; AREAS];
-    let mut waiting = vec![definer];
-    reached[usize::from(definer)] = true;
-    while let Some(lender) = waiting.pop() {
-        let exports = chance.below(100) < percent;
+/// Lends the object on from its definer, to the nearest areas first and across 8 steps at most. Most areas at 8 steps
+/// export as well, and the areas they lie in get no access by that. Gives the areas with access.
+fn lend(state: &mut State, object: u8, definer: u8, percent: usize, chance: &mut Chance) -> Vec<u8> {
+    let mut with_access = vec![definer];
+    let mut waiting = VecDeque::from([(definer, 0)]);
+    while let Some((lender, steps)) = waiting.pop_front() {
+        let lies_in_one = state.structure.iter().any(|pair| pair.0 == lender);
+        let exporting = if steps == MOST_STEPS { 70 } else { percent };
+        let exports = lies_in_one && chance.below(100) < exporting;
         if exports {
             state.exports.insert((object, lender));
         }
-        for &(inner, outer) in &state.structure {
-            if inner == lender && exports && !reached[usize::from(outer)] {
-                reached[usize::from(outer)] = true;
-                waiting.push(outer);
+        for &(inner, outer) in state.structure.iter().filter(|_| steps < MOST_STEPS) {
+            if inner == lender && exports && !with_access.contains(&outer) {
+                with_access.push(outer);
+                waiting.push_back((outer, steps + 1));
             }
-            if outer == lender && !reached[usize::from(inner)] && chance.below(100) < percent {
+            if outer == lender && !with_access.contains(&inner) && chance.below(100) < percent {
                 state.imports.insert((object, inner));
-                reached[usize::from(inner)] = true;
-                waiting.push(inner);
+                with_access.push(inner);
+                waiting.push_back((inner, steps + 1));
             }
         }
     }
-    // Entries beside those that are needed: an area with access may have them.
-    let with_access = (0..AREAS as u8).filter(|&area| reached[usize::from(area)]);
-    for area in with_access.collect::<Vec<_>>() {
-        if chance.once_in(6) {
-            state.imports.insert((object, area));
-        }
-        if chance.once_in(6) {
-            state.exports.insert((object, area));
-        }
-    }
+    with_access
 }

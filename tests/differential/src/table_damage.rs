@@ -1,6 +1,7 @@
 //! What can be wrong with the tables of a site file, a function each. The header fits the tables all the same, so it is
 //! 24, 26, 27, 28 or 29 that finds it. Some files stay right.
 
+use crate::chains::{entries_at, MOST_STEPS};
 use crate::draft::{
     label_entry, random_text, Draft, DEFINITIONS, EXPORTS, FIRST_LIMITS, IMPORTS, LABELS, MOST, OWNERS, STRUCTURE,
 };
@@ -9,7 +10,7 @@ use chance::Chance;
 
 pub type TableDamage = fn(&mut Draft, &mut Chance);
 
-pub const TABLE_DAMAGES: [TableDamage; 24] = [
+pub const TABLE_DAMAGES: [TableDamage; 25] = [
     number_beyond_its_limit,
     entries_swapped,
     neighbours_swapped,
@@ -24,6 +25,7 @@ pub const TABLE_DAMAGES: [TableDamage; 24] = [
     structure_turned,
     entry_dropped,
     entry_added,
+    entry_too_far,
     areas_vouch,
     label_of_an_unlisted_area,
     label_area,
@@ -184,6 +186,21 @@ fn entry_added(draft: &mut Draft, chance: &mut Chance) {
     }
     let table = chance.pick(&[IMPORTS, EXPORTS]);
     draft.insert_new(table, [chance.pick(&objects), chance.pick(&areas)]);
+}
+
+/// An import or export pair at 9 steps, if there is room for one.
+pub fn entry_too_far(draft: &mut Draft, chance: &mut Chance) {
+    let objects = draft.objects();
+    if objects.is_empty() {
+        return;
+    }
+    let object = chance.pick(&objects);
+    let entries = entries_at(&draft.state(), object, MOST_STEPS + 1);
+    if !entries.is_empty() {
+        let (code, area) = chance.pick(&entries);
+        let table = if code == 9 { IMPORTS } else { EXPORTS };
+        draft.insert(table, vec![object, area]);
+    }
 }
 
 /// Two areas in a cycle that both import an object, whether a chain leads to them or not.

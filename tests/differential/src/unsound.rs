@@ -1,5 +1,6 @@
 //! States that are mostly unsound, and often by one place only.
 
+use crate::chains::{entries_at, MOST_STEPS};
 use crate::numbers::{members, pick_or, Pairs};
 use chance::Chance;
 use reference::State;
@@ -12,6 +13,21 @@ pub fn turned(state: &State, chance: &mut Chance) -> State {
         turn(&mut other, chance);
     }
     other
+}
+
+/// The state with one import or export at 9 steps, if it has room for one.
+pub fn one_step_too_far(state: &State, chance: &mut Chance) -> Option<State> {
+    let object = chance.pick(&members(&state.objects));
+    let entries = entries_at(state, object, MOST_STEPS + 1);
+    if entries.is_empty() {
+        return None;
+    }
+    let mut other = state.clone();
+    match chance.pick(&entries) {
+        (9, area) => other.imports.insert((object, area)),
+        (_, area) => other.exports.insert((object, area)),
+    };
+    Some(other)
 }
 
 fn turn(state: &mut State, chance: &mut Chance) {

@@ -6,10 +6,10 @@ use Rattle.examples.proofs.run_cases.Statement.{statement}
 use Rattle.examples.proofs.run_cases.Tie as tie
 
 abbrev Inv-loop : tie.InvT-loop
-Inv-loop cases s₀ i₀ s i = i ≤ 81
+Inv-loop cases s₀ i₀ s i = i ≤ 91
 
 abbrev μ-loop : tie.MeasureT-loop
-μ-loop cases s₀ i₀ s i = 81 - i
+μ-loop cases s₀ i₀ s i = 91 - i
 
 loop-holds : tie.Need-loop-holds Inv-loop μ-loop
 loop-holds c = omega arith
