@@ -18,15 +18,10 @@ fn counts(s: &Record, object: usize) -> [u8; AREAS] {
     }
     while head < tail {
         let from = queue[head];
-        head += 1;
-        let steps = counts[from] + 1;
-        if steps > MOST_STEPS {
+        if counts[from] == MOST_STEPS {
             break;
         }
-        #[expect(
-            clippy::needless_range_loop,
-            reason = "over iter_mut it took 1.7 times as long on the chain"
-        )]
+        head += 1;
         for to in 0..AREAS {
             if counts[to] != NO_ACCESS {
                 continue;
@@ -34,7 +29,7 @@ fn counts(s: &Record, object: usize) -> [u8; AREAS] {
             let exported = s.exports[row + from] && s.structure[cell(from, to)];
             let imported = s.imports[row + to] && s.structure[cell(to, from)];
             if exported || imported {
-                counts[to] = steps;
+                counts[to] = counts[from] + 1;
                 queue[tail] = to;
                 tail += 1;
             }

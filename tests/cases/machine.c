@@ -97,60 +97,62 @@ static void build(uint8_t code, unsigned a, unsigned b)
         fail("%d 0 %u %u is refused as %d", code, a, b, refusal);
 }
 
-static int take_outward_row(const char *text, char *worked)
+/* Lists the area. Outward, the area before it is put into it; inward, it is put into the area before. */
+static void tie(unsigned area, int outward)
 {
-    unsigned last, exporting, area;
-
-    if (sscanf(text, "areas 1 to %2u, each in the next; areas 0 to %2u", &last, &exporting) != 2)
-        return 0;
-    sprintf(worked, "areas 1 to %u, each in the next; areas 0 to %u export object 9", last, exporting);
-    if (strcmp(worked, text) != 0)
-        return 0;
-    for (area = 0; area < last; area++) {
-        build(PANELRIGHTS_LIST_AREA, area + 1, 0);
-        build(PANELRIGHTS_ADD_STRUCTURE, area, area + 1);
-    }
-    for (area = 0; area <= exporting; area++)
-        build(PANELRIGHTS_ADD_EXPORT, area, 9);
-    return 1;
+    build(PANELRIGHTS_LIST_AREA, area, 0);
+    if (outward)
+        build(PANELRIGHTS_ADD_STRUCTURE, area - 1, area);
+    else
+        build(PANELRIGHTS_ADD_STRUCTURE, area, area - 1);
 }
 
-static int take_inward_row(const char *text, char *worked)
+/* The entry by which object 9 then moves there from the area before: an export by that one, or an import. */
+static void lend(unsigned area, int outward)
 {
-    unsigned last, importing, area;
-
-    if (sscanf(text, "areas 1 to %2u, each in the one before; areas 1 to %2u", &last, &importing) != 2)
-        return 0;
-    sprintf(worked, "areas 1 to %u, each in the one before; areas 1 to %u import object 9", last, importing);
-    if (strcmp(worked, text) != 0)
-        return 0;
-    for (area = 1; area <= last; area++) {
-        build(PANELRIGHTS_LIST_AREA, area, 0);
-        build(PANELRIGHTS_ADD_STRUCTURE, area, area - 1);
-    }
-    for (area = 1; area <= importing; area++)
+    if (outward)
+        build(PANELRIGHTS_ADD_EXPORT, area - 1, 9);
+    else
         build(PANELRIGHTS_ADD_IMPORT, area, 9);
-    return 1;
+}
+
+/* Exports by areas 0 to m lead outward to areas 1 to m + 1, imports by areas 1 to m inward to these. */
+static int take_row(const char *text, char *worked)
+{
+    static const char *const rows[] = {
+        "areas 1 to %u, each in the one before; areas 1 to %u import object 9",
+        "areas 1 to %u, each in the next; areas 0 to %u export object 9",
+    };
+    unsigned last, lending, area;
+    int outward;
+
+    for (outward = 0; outward <= 1; outward++) {
+        if (sscanf(text, rows[outward], &last, &lending) != 2)
+            continue;
+        sprintf(worked, rows[outward], last, lending);
+        if (strcmp(worked, text) != 0)
+            return 0;
+        for (area = 1; area <= last; area++)
+            tie(area, outward);
+        for (area = 1; area <= lending + outward; area++)
+            lend(area, outward);
+        return 1;
+    }
+    return 0;
 }
 
 static int take_zigzag(const char *text, char *worked)
 {
     unsigned last, area;
 
-    if (sscanf(text, "areas 1 to %2u", &last) != 1)
+    if (sscanf(text, "areas 1 to %u", &last) != 1)
         return 0;
     sprintf(worked, "areas 1 to %u in a zigzag, object 9 along it", last);
     if (strcmp(worked, text) != 0)
         return 0;
     for (area = 1; area <= last; area++) {
-        build(PANELRIGHTS_LIST_AREA, area, 0);
-        if (area % 2 == 1) {
-            build(PANELRIGHTS_ADD_STRUCTURE, area - 1, area);
-            build(PANELRIGHTS_ADD_EXPORT, area - 1, 9);
-        } else {
-            build(PANELRIGHTS_ADD_STRUCTURE, area, area - 1);
-            build(PANELRIGHTS_ADD_IMPORT, area, 9);
-        }
+        tie(area, area % 2);
+        lend(area, area % 2);
     }
     return 1;
 }
@@ -218,7 +220,7 @@ static int take_emptying(const char *text, char *worked)
 }
 
 static int (*const forms[])(const char *text, char *worked) = {
-    take_instruction, take_question, take_counts, take_outward_row, take_inward_row,
+    take_instruction, take_question, take_counts, take_row,
     take_zigzag,      take_listing,  take_pair,   take_emptying,
 };
 

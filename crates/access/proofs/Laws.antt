@@ -92,8 +92,8 @@ one-answer l a = one-within (l .definedIn) (step l) longest a
 pub no-access-exactly : Claims.NoAccessExactly
 unfolding longest
 no-access-exactly l a = (
-  λ e. subst (Right l a) e (answer-is-right l a),
-  one-answer l a (answer l a) NoAccess (answer-is-right l a),
+  λ e n h. subst (Right l a) e (answer-is-right l a) n (omega (arith, h)),
+  λ none. one-answer l a (answer l a) NoAccess (answer-is-right l a) (λ n h. none n (omega (arith, h))),
 )
 
 -- ---- access
@@ -109,20 +109,16 @@ pub access-is-steps : Claims.AccessIsSteps
 unfolding access answer
 access-is-steps l a = reached-is-steps (l .definedIn) (step l) longest a
 
-pub access-is-short-chain : Laws.AccessIsShortChain
-unfolding access
-access-is-short-chain l a = (
-  chain-of (l .definedIn) (step l) longest a,
-  λ r. reached-by (l .definedIn) (step l) longest (r .2) (r .1),
-)
-
 pub access-is-chain : Claims.AccessIsChain
-unfolding longest
-access-is-chain = access-is-short-chain
+unfolding access longest
+access-is-chain l a = (
+  λ t. let c = chain-of (l .definedIn) (step l) longest a t in (c .0, omega (arith, c .1), c .2),
+  λ r. reached-by (l .definedIn) (step l) longest (r .2) (omega (arith, r .1)),
+)
 
 pub never-above : Claims.NeverAbove
 unfolding longest
-never-above l a n e = let r = subst (Right l a) e (answer-is-right l a) in r .short
+never-above l a n e = let r = subst (Right l a) e (answer-is-right l a) in omega (arith, r .short)
 
 -- the count of an area in the table of counts
 pub count-at : (start : ℕ → Bool) (move : ℕ → ℕ → Bool) (n a : ℕ) → a < limit area → getD (countsWithin start move n) a 0 ≡ answerNumber (answerWithin start move n a)
@@ -176,7 +172,7 @@ chain-start (here {a = d} h t) = (d, h, t)
 chain-start (onward c h t) = chain-start c
 
 pub access-is-defined : Laws.AccessIsDefined
-access-is-defined l a t = chain-start (access-is-short-chain l a .0 t .2)
+access-is-defined l a t = chain-start (access-is-chain l a .0 t .2)
 
 -- ---- more pairs
 -- a chain stays one where more starts and more steps are allowed
@@ -219,8 +215,8 @@ chain-included l k included n a c = chain-by (l .definedIn) (k .definedIn) (step
 
 pub more-keeps-access : Laws.MoreKeepsAccess
 more-keeps-access l k included a t =
-    let c = access-is-short-chain l a .0 t in
-    access-is-short-chain k a .1 (c .0, c .1, chain-included l k included (c .0) a (c .2))
+    let c = access-is-chain l a .0 t in
+    access-is-chain k a .1 (c .0, c .1, chain-included l k included (c .0) a (c .2))
 
 pub equal-answers : Laws.EqualAnswers
 unfolding answer

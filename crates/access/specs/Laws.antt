@@ -1,8 +1,9 @@
 -- What the layers above use of access. Each law is a type, which proofs/Laws.antt inhabits under the law's name. All
--- but ShortChains hold whatever the limit of steps is, if it is below 255.
-use Prim.Native.Nat.{ℕ, _≤_, _<_}
+-- hold whatever the limit of steps is, if it is below 255. ShortChains rests on the number of areas alone, and is here
+-- for document 02, point 10.
+use Prim.Native.Nat.{ℕ, _<_}
 use mathlib.Core.Path.{_≡_}
-use mathlib.Core.Logic.{_⊎_, _↔_}
+use mathlib.Core.Logic.{_⊎_}
 use mathlib.Core.Bool.{Bool, true, false, not}
 use lib.Dec.{T, eqb}
 use lib.ListN.{getD}
@@ -11,7 +12,7 @@ use Rattle.rows.specs.Rows.{row, transpose}
 use Rattle.state.specs.Site.{area, object, limit, Kind, withListed, Relation, owner, firstKind, withPair, Shaped}
 use Rattle.state.specs.Site.{Site}
 use Rattle.access.specs.Lending.{Lending, lending, lendingOf}
-use Rattle.access.specs.Chain.{Chain, ObjectChain}
+use Rattle.access.specs.Chain.{Chain}
 use Rattle.access.specs.Answer.{longest, has, answerWithin, answer, access, unreached, answerNumber}
 use Rattle.access.specs.Answer.{countsWithin, leastCounts, leastCount}
 use Rattle.access.specs.Claims.{RightWithin}
@@ -27,10 +28,6 @@ abbrev pub ShortChains : Type 0
 ShortChains =
     (start : ℕ → Bool) (move : ℕ → ℕ → Bool) (m a : ℕ) → Chain start move m a
     → (n : ℕ) × (n < limit area) × Chain start move n a
-
--- access is a chain within the limit
-abbrev pub AccessIsShortChain : Type 0
-AccessIsShortChain = (l : Lending) (a : ℕ) → T (access l a) ↔ ((n : ℕ) × (n ≤ longest) × ObjectChain l n a)
 
 -- ---- the counts of all areas
 -- the count of each area is the number of its answer
