@@ -42,9 +42,10 @@ static const char *const words[] = {
         "The site file names an area that has no owner or a table that is stored nowhere, stores a table "
         "in two areas, or has no owner at all. Correct the entry and save the site anew.",
     [PANELRIGHTS_FILE_LACKS_ACCESS] =
-        "The site file has an area that imports or exports a table which does not reach it, or only over "
-        "more than 8 steps. In the program that wrote the file, take out that import or export or enter a "
-        "way of at most 8 steps, and save the site anew.",
+        "An area in the site file imports or exports a table that does not reach it within 8 steps, or "
+        "imports a table that is stored on that same area. In the program that wrote the file, take that "
+        "import or export out, or enter a way of at most 8 steps where one is missing, and save the site "
+        "anew.",
 };
 
 /* The area with its label, if it has one. */

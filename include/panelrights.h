@@ -22,10 +22,11 @@
  * step inward, from an area to one that lies in it and imports the object. An area has access to an object
  * if it defines it, or if a chain of at most 8 steps leads there from the area that does; then it sees the
  * object. It lends an object by exporting it, and borrows one by importing it. Areas may lie in each other
- * in a ring, or in themselves, and an area may import what it defines.
+ * in a ring, or in themselves. An area may export what it defines, but not import it.
  * A state is sound if whatever it names is listed, each listed user owns an area, each listed area has an
- * owner, each listed object is defined in exactly one area, there is an area, and each area has access to
- * what it imports or exports. From a sound state every instruction leads to a sound one.
+ * owner, each listed object is defined in exactly one area, there is an area, each area has access to what
+ * it imports or exports, and no area imports what it defines. From a sound state every instruction leads to
+ * a sound one.
  *
  * The library does not know who calls it: that the activator is who he says is your program's business.
  */
@@ -102,7 +103,7 @@ enum panelrights_code {
     PANELRIGHTS_REMOVE_STRUCTURE = 6,  /* area a no longer lies in area b */
     PANELRIGHTS_DEFINE = 7,            /* object b is listed, and defined in area a */
     PANELRIGHTS_REMOVE_DEFINITION = 8, /* object b, defined in area a, is unlisted */
-    PANELRIGHTS_ADD_IMPORT = 9,        /* area a imports object b */
+    PANELRIGHTS_ADD_IMPORT = 9,        /* area a imports object b, which another area defines */
     PANELRIGHTS_REMOVE_IMPORT = 10,    /* area a no longer imports object b */
     PANELRIGHTS_ADD_EXPORT = 11,       /* area a exports object b */
     PANELRIGHTS_REMOVE_EXPORT = 12     /* area a no longer exports object b */
@@ -110,12 +111,12 @@ enum panelrights_code {
 
 /*
  * The refusals. Where more than one applies you get the first in the order of the checks: for an
- * instruction 12, then 1 to 11 upwards; for the access question 12, 2, 4; for a site file 31, then the
- * lowest number. A later version may have more numbers: keep a default case.
+ * instruction 12, 1 to 7 upwards, 15, 8 to 11 upwards; for the access question 12, 2, 4; for a site file
+ * 31, then the lowest number. A later version may have more numbers: keep a default case.
  *
  * An instruction can be refused as 12, 1, 2 or 3, and besides by its code as
- *   1: 6           2: 4 5 8 9     3: 4 5 6           4: 4 5 7 8     5: 4 5 6           6: 4 5 7 11
- *   7: 4 5 6       8: 4 5 7 11    9 and 11: 4 5 6 10                 10 and 12: 4 5 7 11
+ *   1: 6           2: 4 5 8 9     3: 4 5 6           4: 4 5 7 8     5: 4 5 6       6: 4 5 7 11
+ *   7: 4 5 6       8: 4 5 7 11    9: 4 5 6 15 10     11: 4 5 6 10   10 and 12: 4 5 7 11
  */
 enum panelrights_refusal {
     PANELRIGHTS_OK = 0, /* accepted */
@@ -133,8 +134,9 @@ enum panelrights_refusal {
                                            in it, or imports or exports an object */
     PANELRIGHTS_WOULD_LACK_ACCESS = 10, /* even with the new import or export the area lacks access */
     PANELRIGHTS_WOULD_LOSE_ACCESS = 11, /* an area would lack access to what it imports or exports; code 8: so
-                                           long as any area, the definer too, imports or exports b */
+                                           long as another area imports b, or any area at all exports it */
     PANELRIGHTS_UNSOUND_STATE = 12,     /* the bytes are no record, or the state is not sound */
+    PANELRIGHTS_OWN_IMPORT = 15,        /* code 9: area a defines b itself, so it has nobody to borrow it from */
 
     PANELRIGHTS_FILE_TOO_SHORT = 21,    /* under 28 bytes */
     PANELRIGHTS_FILE_VERSION = 22,      /* the version is not 1 */
@@ -144,7 +146,8 @@ enum panelrights_refusal {
     PANELRIGHTS_FILE_RANGE = 26,        /* a number, length, text byte or filler byte outside its range */
     PANELRIGHTS_FILE_ORDER = 27,        /* a table that is not strictly ascending */
     PANELRIGHTS_FILE_LISTS = 28,        /* no owner pair; something unlisted named; an object defined twice */
-    PANELRIGHTS_FILE_LACKS_ACCESS = 29, /* an import or export pair whose area lacks access */
+    PANELRIGHTS_FILE_LACKS_ACCESS = 29, /* an import or export pair whose area lacks access, or an import pair
+                                           whose area defines the object */
 
     /* panelrights_founding, panelrights_read_file: the state buffer has another length than a record. (A
        record of another length is 12 where one is read: panelrights_step, panelrights_access.) */
@@ -182,8 +185,10 @@ uint16_t panelrights_access(const uint8_t *state, size_t state_len, uint32_t are
  * Reads a site file. 0, and the record is that of the file's state; or the refusal, 21 to 29, and the
  * record is that of the founding state: what was in the buffer is gone, so read into a second one if you
  * need it. 31 and no byte written, whatever the file has, if state_len is not panelrights_state_bytes().
- * No accepted file is longer than 13,468 bytes. A file that version 2.0.0 of the library accepted is 29 now if
- * an import or export in it needs more than 8 steps. The library reads site files and does not write them.
+ * No accepted file is longer than 13,340 bytes. A file that an earlier version of the library accepted is 29
+ * now if an import or export in it needs more than 8 steps (from 2.1.0 on), or if an area in it imports what
+ * it defines (from 2.2.0 on); nobody's access rests on such an import, so it can be taken out alone. The
+ * library reads site files and does not write them.
  */
 uint8_t panelrights_read_file(const uint8_t *file, size_t file_len, uint8_t *state, size_t state_len);
 

@@ -61,11 +61,12 @@ bytes_of() {
     printf '%b' "$(sed 's/#.*//; s/[0-9a-f][0-9a-f]/\\x&/g' "$1" | tr -d ' \n')"
 }
 
-# The school's site file with one byte changed, as $work/changed.site.
+# The school's site file with other bytes from a place on, as $work/changed.site.
 change_school() {
-    local place=$1 byte=$2
+    local place=$1
+    shift
     cp examples/school.site "$work/changed.site"
-    printf '%b' "\\x$byte" | dd of="$work/changed.site" bs=1 seek="$place" conv=notrunc status=none
+    printf '%b' "$(printf '\\x%s' "$@")" | dd of="$work/changed.site" bs=1 seek="$place" conv=notrunc status=none
 }
 
 # Both programs refuse the changed file with the number, in the same words.
@@ -94,7 +95,8 @@ numbered=$(grep -oE 'PANELRIGHTS_[A-Z_]+ = ' include/panelrights.h | sed 's/ = /
 compared=$(sed -nE 's/^ *CHECK_NUMBER\((PANELRIGHTS_[A-Z_]+), [0-9]+\);$/\1/p' tests/interface/names.c | sort)
 [ "$numbered" = "$compared" ] || fail 'tests/interface/names.c has other names than the header gives a number'
 
-# The header's refusals are the numbers that the claims allow: those of a step, those of a file, and 31.
+# The refusals of the header and of the Rust package are the numbers that the claims allow: those of a step, those of a
+# file, and 31.
 refusals=$(sed -n '/^enum panelrights_refusal {/,/^};/s/.* = \([0-9]*\).*/\1/p' include/panelrights.h | sort -n)
 allowed=$({
     printf '0\n31\n'
@@ -102,6 +104,8 @@ allowed=$({
     sed -n 's/^readNumbers = //p' crates/site_file/specs/Reading.antt | grep -oE '[0-9]+'
 } | sort -n)
 [ "$refusals" = "$allowed" ] || fail 'the header has other refusals than stepNumbers and readNumbers'
+packaged=$({ echo 0; sed -nE 's/^    [A-Za-z]+ = ([0-9]+): ".*/\1/p' bindings/rust/src/refusal.rs; } | sort -n)
+[ "$packaged" = "$allowed" ] || fail 'the Rust package has other refusals than stepNumbers and readNumbers'
 
 # The limit of steps is that of the definition, in the header and in the Rust package.
 longest=$(sed -n 's/^longest = //p' crates/access/specs/Answer.antt)
@@ -187,11 +191,11 @@ done
 head -c 27 examples/school.site >"$work/changed.site"
 expect_refusal 21
 # Version 0; a byte too many; 65 definitions; owners at 29; area 32; a pair twice; a label for an unlisted area; the
-# hall in loop 2.
-for change in '22 0 00' '23 344 00' '24 6 41' '25 16 1d' '26 29 20' '27 31 00' '28 312 09' '29 63 03'; do
-    read -r number place byte <<<"$change"
-    change_school "$place" "$byte"
-    expect_refusal "$number"
+# hall in loop 2; panel 2 and not the head office as a borrower, of panel 2's own table.
+for change in '22 0 00' '23 344 00' '24 6 41' '25 16 1d' '26 29 20' '27 31 00' '28 312 09' '29 63 03' '29 78 14 05'; do
+    read -ra parts <<<"$change"
+    change_school "${parts[@]:1}"
+    expect_refusal "${parts[0]}"
 done
 echo "interface: $runs runs of the examples, which in C and in Rust print what is stored for the school, and the same" \
     'words for each refusal of a file'

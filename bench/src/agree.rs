@@ -2,7 +2,7 @@
 
 use crate::borders::{self, Borders};
 use crate::random::{self, Span};
-use crate::record::{Record, RECORD_BYTES};
+use crate::record::{cell, Record, RECORD_BYTES};
 use crate::rows::Rows;
 use crate::rules::{Bytes, NO_ACCESS, REFUSED};
 use crate::{files, ideal, ideal_reader, library, plain, plain_reader};
@@ -93,8 +93,8 @@ fn tell(s: &Record) -> String {
 /// How often each answer was seen.
 #[derive(Default)]
 struct Seen {
-    /// By refusal, 0 to 12.
-    steps: [u32; 13],
+    /// By refusal: 0 to 12, and 15 behind them.
+    steps: [u32; 14],
     /// A number of steps, no access, refusal 12, 2, 4.
     questions: [u32; 5],
     /// By refusal: 0, 21 to 29.
@@ -102,19 +102,34 @@ struct Seen {
     borders: Borders,
     /// States with an import or export at 9 steps, refused as 12 and as 29.
     too_far: u32,
+    /// States with nothing wrong but an own import, refused as 12 in a step and in a question, and as 29.
+    own_imports: u32,
 }
 
 impl Seen {
     fn step(&mut self, s: &Record, bytes: Bytes) -> Record {
         let (refusal, after) = step(s, bytes);
-        self.steps[usize::from(refusal)] += 1;
+        self.steps[usize::from(refusal.min(13))] += 1;
         if let 0 | 10 | 11 = refusal {
             if let Some(too_far) = self.borders.step(s, bytes) {
                 let refusals = [step(&too_far, bytes).0, read(&files::file(&too_far))];
                 self.too_far += u32::from(refusals == [12, 29]);
             }
         }
+        if refusal == 15 {
+            self.own_import(s, bytes);
+        }
         after
+    }
+
+    /// The state that the refused import would give: a step that would take it out again, a question, and the file.
+    fn own_import(&mut self, s: &Record, [_, activator, area, object]: Bytes) {
+        let mut own = s.clone();
+        own.imports[cell(object.into(), area.into())] = true;
+        let refused = step(&own, [10, activator, area, object]).0 == 12
+            && access(&own, area.into(), object.into()) == REFUSED + 12
+            && read(&files::file(&own)) == 29;
+        self.own_imports += u32::from(refused);
     }
 
     fn question(&mut self, s: &Record, [area, object]: [u32; 2]) {
@@ -132,18 +147,20 @@ impl Seen {
         self.files[usize::from(refusal.saturating_sub(20))] += 1;
     }
 
-    fn lines(&self) -> [String; 4] {
+    fn lines(&self) -> [String; 5] {
         let Seen {
             steps,
             questions,
             files,
-            too_far,
             borders,
+            too_far,
+            own_imports,
         } = self;
         let at_borders = [borders.questions, borders.adds, borders.removals];
-        let every = [&steps[..], questions, files, &[*too_far], at_borders.as_flattened()].concat();
+        let unsound = [*too_far, *own_imports];
+        let every = [&steps[..], questions, files, &unsound, at_borders.as_flattened()].concat();
         let lines = [
-            format!("agree: instructions answered 0 to 12: {steps:?}"),
+            format!("agree: instructions answered 0 to 12, 15: {steps:?}"),
             format!("agree: questions answered by steps, no access, 12, 2, 4: {questions:?}"),
             format!("agree: files answered 0, 21 to 29: {files:?}"),
             format!(
@@ -151,6 +168,7 @@ impl Seen {
                  states refused for 9: {too_far}",
                 borders.questions, borders.adds, borders.removals
             ),
+            format!("agree: states refused for an own import: {own_imports}"),
         ];
         assert!(!every.contains(&0), "an answer was never seen: {lines:#?}");
         lines
@@ -190,7 +208,7 @@ impl Seen {
 
 /// Walks of random instructions from the founding state, over few numbers and over all; on the way damaged records, the
 /// access question and files. Then the circles. Gives lines on what was seen.
-pub fn compare(count: u32) -> [String; 4] {
+pub fn compare(count: u32) -> [String; 5] {
     const SPANS: [Span; 5] = [[2, 2, 1], [3, 3, 2], [4, 6, 3], [8, 12, 8], random::WHOLE];
     let mut chance = Chance::new(2);
     let mut seen = Seen::default();

@@ -91,7 +91,7 @@ fn farthest(s: &Record) -> u8 {
 }
 
 /// So many areas in a circle, each in the next, and two objects. Areas within 7 steps of the definer import and export
-/// the one, areas within 8 the other, either way round.
+/// the one, areas within 8 the other, either way round; the definer only exports.
 pub fn circle(areas: usize) -> Record {
     let mut s = Record::founding();
     for a in 0..areas {
@@ -104,7 +104,7 @@ pub fn circle(areas: usize) -> Record {
         s.definitions[cell(o, definer)] = true;
         for k in 0..=steps {
             for a in [definer + k, definer + areas - k].map(|a| a % areas) {
-                s.imports[cell(o, a)] = true;
+                s.imports[cell(o, a)] = a != definer;
                 s.exports[cell(o, a)] = true;
             }
         }

@@ -92,7 +92,7 @@ impl Moves<'_> {
     }
 }
 
-/// Consistent, acceptable, and with an area: sound but for the entries that lack access.
+/// Consistent, acceptable, and with an area: sound but for the entries that lack access, and for own imports.
 pub fn is_well_formed(s: &Rows) -> bool {
     // Marks of what is wrong are gathered to the end, so that the compiler looks at many rows at once.
     let mut wrong = 0;
@@ -122,6 +122,16 @@ pub fn is_valid(s: &Rows) -> bool {
     Moves { s, turned: &turned }.are_valid()
 }
 
+/// "no area may import an object that it defines": document 02, point 4.
+pub fn borrows_from_others(s: &Rows) -> bool {
+    let own = (0..OBJECTS).fold(0, |own, o| own | s.imports[o] & s.definitions[o]);
+    own == 0
+}
+
+fn is_sound(moves: &Moves) -> bool {
+    is_well_formed(moves.s) && borrows_from_others(moves.s) && moves.are_valid()
+}
+
 /// Obeys the instruction and gives 0, or gives its refusal and leaves the state as it was.
 pub fn step(s: &mut Rows, bytes: Bytes) -> u8 {
     obeyed(s, bytes).err().unwrap_or(0)
@@ -129,7 +139,7 @@ pub fn step(s: &mut Rows, bytes: Bytes) -> u8 {
 
 fn obeyed(s: &mut Rows, bytes: Bytes) -> Result<(), u8> {
     let turned = turned(&s.structure);
-    if !(is_well_formed(s) && Moves { s, turned: &turned }.are_valid()) {
+    if !is_sound(&Moves { s, turned: &turned }) {
         return Err(12);
     }
     let x = Instruction::of(bytes)?;
@@ -154,7 +164,7 @@ fn last_checks(s: &Rows, turned: &[u32; AREAS], x: Instruction) -> Result<(), u8
 pub fn access(s: &Rows, area: u32, object: u32) -> u16 {
     let turned = turned(&s.structure);
     let moves = Moves { s, turned: &turned };
-    if !(is_well_formed(s) && moves.are_valid()) {
+    if !is_sound(&moves) {
         return REFUSED + 12;
     }
     match rules::question(s, area, object) {

@@ -53,7 +53,7 @@ pub fn read(file: &[u8]) -> Result<Rows, u8> {
     if !ideal::is_well_formed(&s) || labelled & !s.areas != 0 {
         return Err(28);
     }
-    if !ideal::is_valid(&s) {
+    if !(ideal::borrows_from_others(&s) && ideal::is_valid(&s)) {
         return Err(29);
     }
     Ok(s)

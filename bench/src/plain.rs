@@ -87,8 +87,16 @@ pub fn is_valid(s: &Record) -> bool {
     true
 }
 
+/// "no area may import an object that it defines": document 02, point 4.
+pub fn borrows_from_others(s: &Record) -> bool {
+    s.imports
+        .iter()
+        .zip(&s.definitions)
+        .all(|(&imported, &defined)| !(imported && defined))
+}
+
 fn is_sound(s: &Record) -> bool {
-    is_consistent(s) && is_acceptable(s) && s.areas.contains(&true) && is_valid(s)
+    is_consistent(s) && is_acceptable(s) && s.areas.contains(&true) && is_valid(s) && borrows_from_others(s)
 }
 
 /// The state after the instruction, or the number of its refusal.

@@ -44,7 +44,7 @@ pub fn read(file: &[u8]) -> Result<Record, u8> {
     if !tables.labels.iter().all(|label| s.areas[usize::from(label[0])]) {
         return Err(28);
     }
-    if !plain::is_valid(&s) {
+    if !(plain::is_valid(&s) && plain::borrows_from_others(&s)) {
         return Err(29);
     }
     Ok(s)

@@ -1,5 +1,5 @@
-//! What the two baselines share of document 01, however each keeps a state: what four bytes mean, refusals 1 to 9,
-//! which single places decide, and the state that an instruction gives. The library has no part in it.
+//! What the two baselines share of the papers, however each keeps a state: what four bytes mean, refusals 1 to 9 and
+//! 15, which single places decide, and the state that an instruction gives. The library has no part in it.
 
 pub const USERS: usize = 32;
 pub const AREAS: usize = 32;
@@ -115,7 +115,7 @@ fn is_in_use(s: &impl Site, user: usize, area: usize) -> bool {
         || (0..AREAS).any(|c| s.has(Place::Structure(area, c)) || s.has(Place::Structure(c, area)))
 }
 
-/// The first of refusals 3 to 9 that applies: what the given state decides.
+/// The first of refusals 3 to 7, 15, 8 and 9 that applies: what the given state decides.
 pub fn permit(s: &impl Site, x: Instruction) -> Result<(), u8> {
     if !s.has(Place::User(x.user)) {
         return Err(3);
@@ -132,6 +132,9 @@ pub fn permit(s: &impl Site, x: Instruction) -> Result<(), u8> {
     }
     if !x.adds() && !present {
         return Err(7);
+    }
+    if x.code == 9 && s.has(Place::Definition(x.b, x.a)) {
+        return Err(15);
     }
     if x.code == 4 && (0..USERS).filter(|&u| s.has(Place::Owner(u, x.a))).count() == 1 {
         return Err(8);

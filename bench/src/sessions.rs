@@ -24,8 +24,8 @@ pub fn accepted() -> String {
     filled(String::new(), ["5 0 0 0\n", "6 0 0 0\n"])
 }
 
-/// A site is built up with every structure pair, and ten areas that export and import every object; then a structure
-/// pair comes and goes. All is accepted.
+/// A site is built up with every structure pair, and ten areas that export every object, and import it if they don't
+/// define it; then a structure pair comes and goes. All is accepted.
 pub fn dense() -> String {
     let mut lines = String::new();
     for area in 1..32 {
@@ -38,8 +38,8 @@ pub fn dense() -> String {
     }
     for object in 0..64 {
         let definer = object % 10;
-        writeln!(lines, "7 0 {definer} {object}").unwrap();
-        for k in 0..10 {
+        writeln!(lines, "7 0 {definer} {object}\n11 0 {definer} {object}").unwrap();
+        for k in 1..10 {
             let area = (definer + k) % 10;
             writeln!(lines, "11 0 {area} {object}\n9 0 {area} {object}").unwrap();
         }

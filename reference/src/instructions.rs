@@ -13,7 +13,7 @@ pub(crate) struct Instruction {
     pub(crate) b: u8,
 }
 
-/// One instruction at one state: the state that it gives, or its refusal, 1 to 12.
+/// One instruction at one state: the state that it gives, or its refusal, 1 to 12 or 15.
 ///
 /// "The state after a refusal is the state given": the caller keeps it.
 pub fn step(state: &State, instruction: [u8; 4]) -> Result<State, u8> {

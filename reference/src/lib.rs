@@ -1,5 +1,5 @@
-//! The site access state machine of document 01, with point 2 of document 02, written a second time: sets of pairs instead of
-//! arrays of cells.
+//! The site access state machine of document 01, with points 2 and 4 of document 02, written a second time: sets of pairs instead
+//! of arrays of cells.
 //!
 //! Each module follows one section of document 01, and each function quotes the sentence that it stands for; it is document 01's
 //! where no other document is named. docs/READINGS.md says how open places of both documents are read.
@@ -24,6 +24,7 @@ pub use lending::lending_guarantee;
 pub use program::transcript;
 pub use question::{access, lowest_mark};
 pub use record::{from_record, to_record, RECORD_BYTES};
+pub use refusals::order_of_checks;
 pub use site_file::{label, read_file, write_file, Labels};
 pub use small::small_states;
 pub use state::State;

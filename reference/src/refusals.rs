@@ -8,8 +8,8 @@ use std::collections::BTreeSet;
 /// A condition of the table; it is asked only where no condition in front of it holds.
 type Condition = fn(&State, Instruction) -> bool;
 
-/// "Order of checks: 12 first, then 1 to 11 upwards."
-const ORDER_OF_CHECKS: [(u8, Condition); 12] = [
+/// "Order of checks: 12 first, then 1 to 11 upwards." Document 02, point 4: 15 stands "after 7 and before 8".
+const ORDER_OF_CHECKS: [(u8, Condition); 13] = [
     (12, state_is_unsound),
     (1, code_is_unknown),
     (2, number_is_out_of_range),
@@ -18,11 +18,17 @@ const ORDER_OF_CHECKS: [(u8, Condition); 12] = [
     (5, ownership_is_lacking),
     (6, added_is_there),
     (7, removed_is_not_there),
+    (15, import_is_by_the_definer),
     (8, last_of_its_kind),
     (9, area_is_in_use),
     (10, entry_would_lack_access),
     (11, removal_would_cut_access),
 ];
+
+/// The numbers of the refusals in the order of the checks.
+pub fn order_of_checks() -> [u8; 13] {
+    ORDER_OF_CHECKS.map(|(number, _)| number)
+}
 
 /// The refusal of the first condition that holds, if one does.
 pub(crate) fn first_refusal(state: &State, instruction: Instruction) -> Option<u8> {
@@ -107,6 +113,12 @@ fn removed_is_not_there(state: &State, instruction: Instruction) -> bool {
         12 => !state.exports.contains(&(b, a)),
         _ => false,
     }
+}
+
+/// 15: document 02, point 4: "Code 9 by the defining area is refused as 15, after 7 and before 8."
+fn import_is_by_the_definer(state: &State, instruction: Instruction) -> bool {
+    let Instruction { code, a, b, .. } = instruction;
+    code == 9 && state.definitions.contains(&(b, a))
 }
 
 /// 8: "code 4 on the sole owner of a; code 2 on the only listed area"

@@ -1,7 +1,7 @@
 //! "The site file": reader, writer and label finder.
 
 use crate::access::is_valid;
-use crate::soundness::is_consistent;
+use crate::soundness::{has_own_import, is_consistent};
 use crate::state::{firsts, seconds, State};
 use std::collections::{BTreeMap, BTreeSet};
 
@@ -32,7 +32,7 @@ const FIRST_LIMITS: [u8; 5] = [State::USERS, State::OBJECTS, State::AREAS, State
 type Condition = fn(&[u8]) -> bool;
 
 /// "Reader refusals, lowest number first over the whole file".
-const ORDER_OF_CHECKS: [(u8, Condition); 9] = [
+const ORDER_OF_CHECKS: [(u8, Condition); 10] = [
     (21, is_under_a_header),
     (22, version_is_another),
     (23, length_is_another),
@@ -42,6 +42,7 @@ const ORDER_OF_CHECKS: [(u8, Condition); 9] = [
     (27, table_is_not_ascending),
     (28, file_is_inconsistent),
     (29, entry_lacks_access),
+    (29, import_is_by_the_definer),
 ];
 
 /// The state and the labels of a file, or the first reader refusal, 21 to 29.
@@ -171,6 +172,11 @@ fn file_is_inconsistent(file: &[u8]) -> bool {
 /// Document 02, point 2: "A file whose import or export needs more gets 29."
 fn entry_lacks_access(file: &[u8]) -> bool {
     !is_valid(&state_of(file))
+}
+
+/// 29: document 02, point 4: "no area may import an object that it defines", "A file with one gets 29."
+fn import_is_by_the_definer(file: &[u8]) -> bool {
+    has_own_import(&state_of(file))
 }
 
 /// The single file of a sound state and its labels: each text has 1 to 30 bytes of 32 to 126, and each area of a label is listed.

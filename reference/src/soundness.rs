@@ -1,4 +1,6 @@
 //! "A state is *sound* when it is consistent ..., acceptable ..., has at least one area, and is valid."
+//!
+//! Document 02, point 4, has one clause more, beside validity: no area imports what it defines.
 
 use crate::access::is_valid;
 use crate::state::{beside, firsts, seconds, State};
@@ -7,8 +9,9 @@ use std::collections::BTreeSet;
 impl State {
     /// "A state is *sound* when it is consistent (whatever a pair names is listed), acceptable (...), has at least one area, and is
     /// valid: for each import or export pair the area has access to the object."
+    /// Document 02, point 4: "a state with such an import is unsound".
     pub fn is_sound(&self) -> bool {
-        is_numbered(self) && is_consistent(self) && is_acceptable(self) && !self.areas.is_empty() && is_valid(self)
+        is_numbered(self) && is_consistent(self) && is_acceptable(self) && !self.areas.is_empty() && is_valid(self) && !has_own_import(self)
     }
 }
 
@@ -39,4 +42,9 @@ fn is_acceptable(state: &State) -> bool {
     state.users.is_subset(&firsts(&state.owners))
         && state.areas.is_subset(&seconds(&state.owners))
         && state.objects.iter().all(|&object| beside(&state.definitions, object).count() == 1)
+}
+
+/// Document 02, point 4: "From now on no area may import an object that it defines". Both are pairs (object, area).
+pub(crate) fn has_own_import(state: &State) -> bool {
+    !state.imports.is_disjoint(&state.definitions)
 }

@@ -1,4 +1,4 @@
-//! The examples of document 01, point 2 of document 02, and the readings 1 to 12 of docs/READINGS.md.
+//! The examples of document 01, points 2 and 4 of document 02, and the readings 1 to 13 of docs/READINGS.md.
 
 use reference::*;
 use std::collections::{BTreeMap, BTreeSet};
@@ -125,9 +125,14 @@ fn record_places_are_in_the_order_of_the_relations() {
     for place in [31, 63, 127, 1151, 3199, 4223, 6271, 8319] {
         record[place] = 1;
     }
-    assert!(last.is_sound());
     assert_eq!(to_record(&last), record);
-    assert_eq!(from_record(&record), Some(last));
+    assert_eq!(from_record(&record).as_ref(), Some(&last));
+    assert!(!last.is_sound()); // area 31 imports what it defines; nothing else is wrong
+    let without_import = State {
+        imports: BTreeSet::new(),
+        ..last
+    };
+    assert!(without_import.is_sound());
     let mut pair = vec![0; 8320];
     pair[4224 + 9 * 32 + 2] = 1; // import of object 9 by area 2
     pair[3200 + 3 * 32 + 4] = 1; // area 3 in area 4
@@ -163,7 +168,7 @@ fn each_part_of_soundness_by_itself() {
         ..f.clone()
     };
     assert!(!nothing.is_sound(), "has at least one area");
-    let unsound: [(&str, State); 10] = [
+    let unsound: [(&str, State); 11] = [
         (
             "owner pair of an unlisted user",
             State {
@@ -234,17 +239,19 @@ fn each_part_of_soundness_by_itself() {
                 ..sound.clone()
             },
         ),
+        (
+            "an import by the defining area, which has access: valid, and unsound by point 4 of document 02",
+            State {
+                imports: BTreeSet::from([(9, 0)]),
+                ..sound.clone()
+            },
+        ),
     ];
     for (what, state) in unsound {
         assert!(!state.is_sound(), "{what}");
         assert_eq!(step(&state, [1, 0, 1, 0]), Err(12), "{what}");
         assert_eq!(step_record(&to_record(&state), [13, 99, 99, 99]), Err(12), "{what}");
     }
-    let own_import = State {
-        imports: BTreeSet::from([(9, 0)]),
-        ..sound
-    };
-    assert!(own_import.is_sound(), "An import by the defining area itself is therefore valid.");
 }
 
 // Refusals of an instruction
@@ -403,16 +410,16 @@ fn adds_and_removes_give_the_state_they_say() {
         (object.objects, object.definitions),
         (BTreeSet::from([9]), BTreeSet::from([(9, 0)]))
     );
-    assert_eq!(accepted(&[[7, 0, 0, 9]], [9, 0, 0, 9]).imports, BTreeSet::from([(9, 0)]));
-    assert_eq!(accepted(&[[7, 0, 0, 9]], [11, 0, 0, 9]).exports, BTreeSet::from([(9, 0)]));
+    let start: &[[u8; 4]] = &[[1, 0, 1, 0], [5, 0, 1, 0], [7, 0, 0, 9]]; // area 1 in area 0, 9 in 0
+    assert_eq!(accepted(start, [9, 0, 1, 9]).imports, BTreeSet::from([(9, 1)]));
+    assert_eq!(accepted(start, [11, 0, 0, 9]).exports, BTreeSet::from([(9, 0)]));
     // each add taken back by its remove
-    let start: &[[u8; 4]] = &[[1, 0, 1, 0], [7, 0, 0, 9]];
     for (add, remove) in [
         ([1, 0, 2, 0], [2, 0, 2, 0]),
         ([3, 0, 1, 4], [4, 0, 1, 4]),
-        ([5, 0, 1, 0], [6, 0, 1, 0]),
+        ([5, 0, 0, 1], [6, 0, 0, 1]),
         ([7, 0, 1, 8], [8, 0, 1, 8]),
-        ([9, 0, 0, 9], [10, 0, 0, 9]),
+        ([9, 0, 1, 9], [10, 0, 1, 9]),
         ([11, 0, 0, 9], [12, 0, 0, 9]),
     ] {
         assert_eq!(accepted(&[start, &[add]].concat(), remove), from_f(start));
@@ -625,8 +632,7 @@ fn reading_4_codes_6_and_8() {
     assert!(accepted(&itself, [6, 0, 1, 1]).structure.is_empty());
     let elsewhere = [[1, 0, 1, 0], [7, 0, 0, 9]];
     refused(&elsewhere, [8, 0, 1, 9], 7);
-    refused(&[[7, 0, 0, 9], [9, 0, 0, 9]], [8, 0, 0, 9], 11); // its own import
-    refused(&[[7, 0, 0, 9], [11, 0, 0, 9]], [8, 0, 0, 9], 11); // its own export
+    refused(&[[7, 0, 0, 9], [11, 0, 0, 9]], [8, 0, 0, 9], 11); // its own export; an own import can't be there (point 4)
     refused(&[&elsewhere[..], &[[5, 0, 1, 0], [9, 0, 1, 9]]].concat(), [8, 0, 0, 9], 11); // another area's import
     accepted(&elsewhere, [8, 0, 0, 9]);
 }
@@ -861,10 +867,14 @@ fn reading_8_lowest_number_over_the_whole_file() {
     }
 }
 
-#[test]
-fn reading_8_largest_file_has_13468_bytes() {
-    let all = |rows: u8| -> BTreeSet<(u8, u8)> { (0..rows).flat_map(|first| (0..32).map(move |area| (first, area))).collect() };
-    let full = State {
+/// Every pair of a number below `rows` and an area.
+fn all(rows: u8) -> BTreeSet<(u8, u8)> {
+    (0..rows).flat_map(|first| (0..32).map(move |area| (first, area))).collect()
+}
+
+/// Everything listed, and every pair of every relation, with each object defined in one area: unsound by its own imports alone.
+fn everything() -> State {
+    State {
         users: (0..32).collect(),
         areas: (0..32).collect(),
         objects: (0..64).collect(),
@@ -873,13 +883,21 @@ fn reading_8_largest_file_has_13468_bytes() {
         structure: all(32),
         imports: all(64),
         exports: all(64),
-    };
+    }
+}
+
+/// Of the 2,048 imports one of each object is its definer's: 64 entries of two bytes less than the counts allow, 13,468 - 128.
+#[test]
+fn reading_8_largest_accepted_file_has_13340_bytes() {
+    let mut full = everything();
+    full.imports.retain(|&(object, area)| area != object % 32);
     let labels: Labels = (0..32).map(|area| (area, vec![b'~'; 30])).collect();
     let bytes = write_file(&full, &labels);
     assert!(full.is_sound());
-    assert_eq!(bytes.len(), 13_468);
+    assert_eq!(full.imports.len(), 1984);
+    assert_eq!(bytes.len(), 13_340);
     assert_eq!(read_file(&bytes), Ok((full.clone(), labels)));
-    assert_eq!(label(&bytes, 31), (13_468 - 30, 30));
+    assert_eq!(label(&bytes, 31), (13_340 - 30, 30));
     assert_eq!(from_record(&to_record(&full)), Some(full));
 }
 
@@ -920,7 +938,7 @@ fn reading_9_what_28_covers() {
         read_file(&file(&[[0, 0], [0, 1]], &[[9, 0], [9, 1]], NO, NO, NO, NO_LABELS)),
         Err(28)
     ); // defined twice
-    assert!(read_file(&file(owner, defined, &[[0, 0]], defined, defined, NO_LABELS)).is_ok());
+    assert!(read_file(&file(&[[0, 0], [0, 1]], defined, &[[1, 0]], &[[9, 1]], defined, NO_LABELS)).is_ok());
 }
 
 #[test]
@@ -1477,7 +1495,7 @@ fn lending_guarantee_over_lists_in_disorder() {
     assert!(seen.is_superset(&BTreeSet::from(at_the_limit)));
 }
 
-/// For an instruction of user 0, who owns all: 0, 6, 7, 10 or 11 by `least_chains` and the limit of 8 steps, and the most steps
+/// For an instruction of user 0, who owns all: 0, 6, 7, 15, 10 or 11 by `least_chains` and the limit of 8 steps, and the most steps
 /// that an entry has in the state it would give, 255 where no chain leads to it.
 fn reply_within_8(state: &State, [code, _, a, b]: [u8; 4]) -> (u8, u8) {
     let mut next = state.clone();
@@ -1494,6 +1512,7 @@ fn reply_within_8(state: &State, [code, _, a, b]: [u8; 4]) -> (u8, u8) {
     let entries = || next.imports.iter().chain(&next.exports).map(|&(_, area)| area);
     let reply = match code {
         _ if !changed => otherwise,
+        9 if a == 0 => 15, // area 0 defines object 9
         9 | 11 if lacks_access(a) => 10,
         6 | 10 | 12 if entries().any(lacks_access) => 11,
         _ => 0,
@@ -1530,21 +1549,430 @@ fn replies_and_answers_are_those_of_the_least_chains_within_8_steps() {
         chains_of_9 += chains.values().filter(|&&steps| steps == 9).count();
     }
     assert!(seen.is_superset(&BTreeSet::from([(0, 8), (10, 9), (11, 9)])) && chains_of_9 > 0);
+    assert!(seen.iter().any(|&(reply, _)| reply == 15));
+}
+
+// Document 02, point 4: borrowing from oneself
+
+/// Areas 0 and 1 of user 0, each in the other; object 9 is defined in area 0 and object 8 in area 1.
+const NEIGHBOURS: &[[u8; 4]] = &[[1, 0, 1, 0], [5, 0, 0, 1], [5, 0, 1, 0], [7, 0, 0, 9], [7, 0, 1, 8]];
+
+/// Document 02, point 4: "Code 9 by the defining area is refused as 15".
+#[test]
+fn point_4_code_9_by_the_defining_area_is_15() {
+    refused(&[[7, 0, 0, 9]], [9, 0, 0, 9], 15);
+    refused(&[[7, 0, 0, 9], [5, 0, 0, 0]], [9, 0, 0, 9], 15); // an area in itself
+    refused(&[[7, 0, 0, 9], [5, 0, 0, 0], [11, 0, 0, 9]], [9, 0, 0, 9], 15);
+    refused(&[[1, 0, 31, 0], [7, 0, 31, 63]], [9, 0, 31, 63], 15);
+    refused(&[[3, 0, 0, 4], [7, 0, 0, 9]], [9, 4, 0, 9], 15); // each of its owners
+    refused(&[[3, 0, 0, 4], [7, 4, 0, 9]], [9, 0, 0, 9], 15); // whoever defined it
+    let lent = [NEIGHBOURS, &[[11, 0, 0, 9], [9, 0, 1, 9], [11, 0, 1, 9]]].concat();
+    refused(&lent, [9, 0, 0, 9], 15); // area 1, its inner and its outer area, imports and exports it
+    for object in 0..64 {
+        refused(&[[7, 0, 0, object]], [9, 0, 0, object], 15);
+    }
+    for area in 1..32 {
+        refused(&[[1, 0, area, 0], [7, 0, area, 9]], [9, 0, area, 9], 15);
+    }
+}
+
+/// Document 02, point 4, through the program: what is printed is 15, and the import is not there.
+#[test]
+fn point_4_program_prints_15() {
+    let input = b"7 0 0 9\n9 0 0 9\n11 0 0 9\n9 0 0 9\n10 0 0 9\n";
+    assert_eq!(transcript(input), b"1 0\n2 15\n3 0\n4 15\n5 7\nstate 1 1 1 1 0 0 1\n");
+}
+
+/// Document 02, point 4: "refused as 15, after 7 and before 8". Of the checks in front 2, 3 and 5 can apply beside it, and they show.
+#[test]
+fn point_4_checks_in_front_of_15() {
+    let start = [[1, 0, 1, 0], [3, 0, 1, 4], [7, 0, 0, 9]]; // 4 owns area 1, and area 0 defines 9
+    refused(&start, [9, 0, 0, 9], 15);
+    refused(&start, [9, 32, 0, 9], 2);
+    refused(&start, [9, 5, 0, 9], 3); // an unlisted activator
+    refused(&start, [9, 4, 0, 9], 5); // a listed one who does not own area 0
+    refused(&start, [9, 0, 0, 8], 4); // 4 can't apply beside it: what an area defines is listed, and so is the area
+    refused(&start, [9, 0, 6, 9], 4);
+    refused(&[&start[..], &[[8, 0, 0, 9]]].concat(), [9, 0, 0, 9], 4); // it defined 9, and does no more
+}
+
+/// 6: "an add of what is there: ... present pair (3, 5, 9, 11)". The definer has the object, and not the pair.
+#[test]
+fn reading_13_import_by_the_definer_is_15_and_not_6() {
+    let state = from_f(&[[7, 0, 0, 9], [11, 0, 0, 9]]);
+    assert_eq!(access(&state, 0, 9), Ok(Some(0)));
+    assert!(state.imports.is_empty());
+    assert_eq!(step(&state, [11, 0, 0, 9]), Err(6));
+    assert_eq!(step(&state, [7, 0, 0, 9]), Err(6));
+    assert_eq!(step(&state, [9, 0, 0, 9]), Err(15));
+    assert_eq!(step(&run(&state, &[[9, 0, 0, 9]]), [9, 0, 0, 9]), Err(15)); // and again: the first has put no pair there
+    refused(&[NEIGHBOURS, &[[9, 0, 1, 9]]].concat(), [9, 0, 1, 9], 6); // another area's, again
+}
+
+/// Reading 13: 12, 1, 2, 3, 4, 5, 6, 7, 15, 8, 9, 10, 11. At a sound state 15 stands beside 2, 3 or 5 alone: no own import is present
+/// (6), 7, 8, 9 and 11 are of other codes, and the definer has access in 0 steps (10). So the list shows its place behind 5.
+#[test]
+fn reading_13_order_of_checks() {
+    assert_eq!(order_of_checks(), [12, 1, 2, 3, 4, 5, 6, 7, 15, 8, 9, 10, 11]);
+    refused(&[[1, 0, 1, 0], [7, 0, 0, 9]], [9, 0, 0, 9], 15);
+    refused(&[[1, 0, 1, 0], [7, 0, 0, 9]], [9, 0, 1, 9], 10);
+}
+
+/// Document 02, point 4: "no area may import an object that it defines": the area itself, and not another of its owner's; that object,
+/// and no other.
+#[test]
+fn point_4_owner_of_two_areas() {
+    assert_eq!(accepted(NEIGHBOURS, [9, 0, 1, 9]).imports, BTreeSet::from([(9, 1)]));
+    assert_eq!(accepted(NEIGHBOURS, [9, 0, 0, 8]).imports, BTreeSet::from([(8, 0)]));
+    refused(NEIGHBOURS, [9, 0, 0, 9], 15);
+    refused(NEIGHBOURS, [9, 0, 1, 8], 15);
+    // each from the other, and both sound
+    let crosswise = accepted(&[NEIGHBOURS, &[[9, 0, 1, 9]]].concat(), [9, 0, 0, 8]);
+    assert_eq!(crosswise.imports, BTreeSet::from([(8, 0), (9, 1)]));
+    assert_eq!((access(&crosswise, 0, 8), access(&crosswise, 1, 9)), (Ok(Some(1)), Ok(Some(1))));
+    // two objects of one area, and a third area with none
+    let more = [NEIGHBOURS, &[[7, 0, 0, 7], [1, 0, 2, 0], [5, 0, 2, 0]]].concat();
+    for object in [7, 9] {
+        refused(&more, [9, 0, 0, object], 15);
+        accepted(&more, [9, 0, 1, object]);
+        accepted(&more, [9, 0, 2, object]);
+    }
+    refused(&more, [9, 0, 2, 8], 10);
+}
+
+/// Reading 13: exports by the defining area stay as they were.
+#[test]
+fn reading_13_exports_by_the_definer_stay() {
+    let own = accepted(&[[7, 0, 0, 9]], [11, 0, 0, 9]);
+    assert_eq!(own.exports, BTreeSet::from([(9, 0)]));
+    refused(&[[7, 0, 0, 9], [11, 0, 0, 9]], [11, 0, 0, 9], 6);
+    assert_eq!(accepted(&[[7, 0, 0, 9], [11, 0, 0, 9]], [12, 0, 0, 9]), from_f(&[[7, 0, 0, 9]]));
+    refused(&[[7, 0, 0, 9]], [12, 0, 0, 9], 7);
+    refused(&[[7, 0, 0, 9]], [10, 0, 0, 9], 7); // nor is code 10 by the definer 15
+    let bytes = file(&[[0, 0]], &[[9, 0]], NO, NO, &[[9, 0]], NO_LABELS);
+    assert_eq!(read_file(&bytes), Ok((own, BTreeMap::new())));
+}
+
+/// Document 02, point 4: "no area may import an object that it defines". Code 7 makes no such import: it takes no object that anyone
+/// imports.
+#[test]
+fn point_4_no_definition_makes_an_own_import() {
+    let imported = [NEIGHBOURS, &[[9, 0, 1, 9]]].concat();
+    refused(&imported, [7, 0, 1, 9], 6); // area 1 imports it
+    refused(&imported, [8, 0, 0, 9], 11); // and while it does, the object stays where it is
+    let freed = and(imported, &[[10, 0, 1, 9], [8, 0, 0, 9]]);
+    let moved = and(freed.clone(), &[[7, 0, 1, 9]]);
+    assert!(accepted(&freed, [7, 0, 1, 9]).imports.is_empty());
+    refused(&moved, [9, 0, 1, 9], 15); // the former importer defines it
+    assert_eq!(accepted(&moved, [9, 0, 0, 9]).imports, BTreeSet::from([(9, 0)])); // the former definer may import it
+    assert_eq!(access(&accepted(&moved, [9, 0, 0, 9]), 0, 9), Ok(Some(1)));
+    // and back
+    let back = and(moved, &[[8, 0, 1, 9], [7, 0, 0, 9]]);
+    refused(&back, [9, 0, 0, 9], 15);
+    accepted(&back, [9, 0, 1, 9]);
+}
+
+/// "An import by the defining area itself is therefore valid": it has access in 0 steps. By point 4 the state is unsound all the same.
+#[test]
+fn reading_13_state_with_an_own_import_is_12_for_every_code() {
+    let sound = from_f(&[[1, 0, 9, 0], [5, 0, 9, 0], [7, 0, 9, 9], [11, 0, 9, 9], [9, 0, 0, 9]]);
+    assert!(sound.is_sound());
+    assert_eq!((access(&sound, 9, 9), access(&sound, 0, 9)), (Ok(Some(0)), Ok(Some(1))));
+    let unsound = with_import(&sound, 9);
+    assert_eq!((least_chain(&unsound, 9, 9), least_chain(&unsound, 0, 9)), (Some(0), Some(1)));
+    assert_eq!(lending_guarantee(&unsound, &[], &unsound, 9), Ok(())); // what access is has not moved
+    is_12_for_all(&unsound);
+    // what would take it out, and others, on the state and on its record
+    for instruction in [
+        [10, 0, 9, 9],
+        [8, 0, 9, 9],
+        [9, 0, 9, 9],
+        [10, 0, 0, 9],
+        [0, 0, 0, 0],
+        [255, 255, 255, 255],
+    ] {
+        assert_eq!(step(&unsound, instruction), Err(12));
+        assert_eq!(step_record(&to_record(&unsound), instruction), Err(12));
+        assert_eq!(run(&unsound, &[instruction]), unsound);
+    }
+}
+
+/// Document 02, point 4: "a state with such an import is unsound", at each of the 2,048 places; an export there is sound.
+#[test]
+fn point_4_every_place_of_an_own_import_is_unsound() {
+    for (object, area) in all(64) {
+        let defined = State {
+            areas: BTreeSet::from([0, area]),
+            objects: BTreeSet::from([object]),
+            owners: BTreeSet::from([(0, 0), (0, area)]),
+            definitions: BTreeSet::from([(object, area)]),
+            exports: BTreeSet::from([(object, area)]),
+            ..State::founding()
+        };
+        assert!(defined.is_sound());
+        let own_import = State {
+            imports: BTreeSet::from([(object, area)]),
+            ..defined.clone()
+        };
+        assert!(!own_import.is_sound(), "object {object}, area {area}");
+        assert_eq!(read_file(&write_file(&defined, &Labels::new())), Ok((defined, Labels::new())));
+        assert_eq!(read_file(&write_file(&own_import, &Labels::new())), Err(29));
+    }
+}
+
+/// Document 02, point 4: "a state with such an import is unsound", also where it is one among many imports that may stand.
+#[test]
+fn point_4_one_own_import_among_others() {
+    let mut full = everything();
+    assert!(!full.is_sound());
+    full.imports.retain(|&(object, area)| area != object % 32);
+    assert!(full.is_sound());
+    for object in 0..64 {
+        let mut one = full.clone();
+        one.imports.insert((object, object % 32));
+        assert!(!one.is_sound(), "of object {object}");
+        assert_eq!(access(&one, 0, 0), Err(12));
+        assert_eq!(step(&one, [10, 0, object % 32, object]), Err(12));
+    }
+    assert_eq!(step(&full, [9, 0, 3, 35]), Err(15));
+    assert_eq!(step(&full, [9, 0, 3, 34]), Err(6));
+    assert_eq!(access(&full, 3, 34), Ok(Some(1)));
+}
+
+/// Document 02, point 4: "A file with one gets 29."
+#[test]
+fn point_4_file_with_an_own_import_gets_29() {
+    assert_eq!(read_file(&file(&[[0, 0]], &[[9, 0]], NO, &[[9, 0]], NO, NO_LABELS)), Err(29));
+    assert_eq!(
+        read_file(&file(&[[0, 0]], &[[9, 0]], &[[0, 0]], &[[9, 0]], &[[9, 0]], NO_LABELS)),
+        Err(29)
+    );
+    // one own import beside an import of another area, which may stand alone; and the file has no label
+    let two = &[[0, 0], [0, 1]];
+    let hall = &[entry(0, 4, b"HALL")];
+    let with = |imports: &[[u8; 2]]| file(two, &[[8, 1], [9, 0]], &[[0, 1], [1, 0]], imports, NO, hall);
+    for imports in [&[[9, 1]][..], &[[8, 0]], &[[8, 0], [9, 1]]] {
+        assert!(read_file(&with(imports)).is_ok());
+        assert_ne!(label(&with(imports), 0), (0, 0));
+    }
+    for imports in [
+        &[[9, 0]][..],
+        &[[8, 1]],
+        &[[9, 0], [9, 1]],
+        &[[8, 1], [9, 1]],
+        &[[8, 0], [8, 1], [9, 1]],
+    ] {
+        assert_eq!(read_file(&with(imports)), Err(29));
+        assert_eq!(label(&with(imports), 0), (0, 0));
+    }
+    // an own import and one without access: 29 for either
+    assert_eq!(read_file(&file(two, &[[9, 0]], NO, &[[9, 0], [9, 1]], NO, NO_LABELS)), Err(29));
+}
+
+/// "Reader refusals, lowest number first over the whole file": a file with an own import and something else.
+#[test]
+fn reading_13_refusals_21_to_28_come_before_29() {
+    let own = file(&[[0, 0]], &[[9, 0]], NO, &[[9, 0]], NO, NO_LABELS);
+    assert_eq!((own.len(), read_file(&own)), (34, Err(29)));
+    assert_eq!(read_file(&own[..27]), Err(21));
+    for (place, byte, refusal) in [(0, 2, 22), (2, 33, 23), (11, 8, 24), (24, 31, 25), (33, 32, 26), (29, 1, 28)] {
+        let mut other = own.clone();
+        other[place] = byte;
+        assert_eq!(read_file(&other), Err(refusal), "byte {byte} at {place}");
+    }
+    let with = |imports: &[[u8; 2]], labels: &[[u8; 32]]| read_file(&file(&[[0, 0]], &[[9, 0]], NO, imports, NO, labels));
+    assert_eq!(with(&[[9, 0], [9, 32]], NO_LABELS), Err(26));
+    assert_eq!(with(&[[9, 0]], &[entry(0, 0, b"")]), Err(26));
+    assert_eq!(with(&[[9, 0], [9, 0]], NO_LABELS), Err(27));
+    assert_eq!(with(&[[9, 0]], &[entry(0, 1, b"x"), entry(0, 1, b"x")]), Err(27));
+    assert_eq!(with(&[[9, 0], [9, 1]], NO_LABELS), Err(28)); // an unlisted area
+    assert_eq!(with(&[[8, 0], [9, 0]], NO_LABELS), Err(28)); // an unlisted object
+    assert_eq!(with(&[[9, 0]], &[entry(5, 1, b"x")]), Err(28));
+    // defined twice, and imported by both definers
+    let two = &[[9, 0], [9, 1]];
+    assert_eq!(read_file(&file(&[[0, 0], [0, 1]], two, NO, two, NO, NO_LABELS)), Err(28));
+}
+
+/// Reading 13: "Counts are at most ... 2,048" stays, though at most 1,984 imports can be sound.
+#[test]
+fn reading_13_count_limit_of_imports_stays_2048() {
+    let state = everything();
+    assert_eq!(state.imports.len(), 2048);
+    let table = |pairs: &BTreeSet<(u8, u8)>| -> Vec<[u8; 2]> { pairs.iter().map(|&(first, second)| [first, second]).collect() };
+    let (owners, definitions, square) = (table(&state.owners), table(&state.definitions), table(&state.structure));
+    let rows = table(&state.imports);
+    let with = |imports: &[[u8; 2]]| read_file(&file(&owners, &definitions, &square, imports, &rows, NO_LABELS)).err();
+    assert_eq!(with(&rows), Some(29));
+    assert_eq!(with(&[&rows[..], &[[63, 31]]].concat()), Some(24));
+    let others: Vec<[u8; 2]> = rows.iter().copied().filter(|row| !definitions.contains(row)).collect();
+    assert_eq!((others.len(), with(&others)), (1984, None));
+    for own in [[0, 0], [31, 31], [32, 0], [63, 31]] {
+        let mut more = others.clone();
+        more.push(own);
+        more.sort();
+        assert_eq!((more.len(), with(&more)), (1985, Some(29)));
+    }
+}
+
+/// At each small state the reply to code 9 is 15 for an owner of the definer and for no one else; and with the own import put into
+/// it, the state is unsound, every code gets 12, and its file 29.
+#[test]
+fn point_4_at_every_small_state() {
+    let mut refused_with_15 = 0;
+    for state in small_states() {
+        for instruction in (0..4).map(|both| [9, both / 2, both % 2, 0]) {
+            let [_, activator, a, b] = instruction;
+            let expected = state.owners.contains(&(activator, a)) && state.definitions.contains(&(b, a));
+            assert_eq!(step(&state, instruction) == Err(15), expected, "{instruction:?} at {state:?}");
+            refused_with_15 += u32::from(expected);
+        }
+        for &own in &state.definitions {
+            let mut other = state.clone();
+            other.imports.insert(own);
+            assert!(!other.is_sound());
+            for code in 0..=13 {
+                assert_eq!(step(&other, [code, 0, own.1, 0]), Err(12));
+                assert_eq!(step(&other, [code, 1, own.1, 0]), Err(12));
+            }
+            assert_eq!(access(&other, own.1.into(), 0), Err(12));
+            assert_eq!(read_file(&write_file(&other, &Labels::new())), Err(29));
+        }
+    }
+    assert!(refused_with_15 > 1000);
+}
+
+/// Users 0, 1 and 2, areas 0 to 3, some in others, and one object in each area.
+const FOUR_AREAS: &[[u8; 4]] = &[
+    [1, 0, 1, 0],
+    [1, 0, 2, 0],
+    [3, 0, 0, 1],
+    [1, 1, 3, 0],
+    [3, 0, 2, 2],
+    [5, 0, 1, 0],
+    [5, 0, 2, 1],
+    [5, 0, 1, 2],
+    [5, 1, 0, 3],
+    [7, 0, 0, 0],
+    [7, 0, 1, 1],
+    [7, 2, 2, 2],
+    [7, 1, 3, 3],
+];
+
+/// An instruction on a few users, areas and objects; a third are imports, and half of these by the object's definer.
+fn often_own_import(state: &State, [kind, user, a, b]: [u8; 4]) -> [u8; 4] {
+    let code = [1, 2, 3, 4, 5, 5, 5, 6, 7, 7, 8, 10, 11, 11, 12, 13, 9, 9, 9, 9, 9, 9, 9, 9][usize::from(kind) % 24];
+    let activator = [0, 0, 0, 0, 1, 1, 2, 3][usize::from(user) % 8];
+    let b = match code {
+        1 | 2 => 0,
+        5 | 6 => b % 5,
+        _ => b % 4,
+    };
+    let definer = state.definitions.iter().find(|pair| pair.0 == b).map(|pair| pair.1);
+    match definer {
+        Some(area) if code == 9 && user >= 128 => [code, activator, area, b],
+        _ => [code, activator, a % 5, b],
+    }
+}
+
+/// Document 02, point 4: "The soundness of every reached state is read with this clause."
+#[test]
+fn point_4_every_reached_state_is_sound() {
+    let mut bytes = disorder();
+    let mut seen: BTreeMap<u8, u32> = BTreeMap::new();
+    for _ in 0..150 {
+        let mut state = from_f(FOUR_AREAS);
+        for four in bytes.by_ref().take(100) {
+            let instruction = often_own_import(&state, four);
+            let [code, activator, a, b] = instruction;
+            let own_import = code == 9 && state.owners.contains(&(activator, a)) && state.definitions.contains(&(b, a));
+            let reply = step(&state, instruction);
+            assert_eq!(reply == Err(15), own_import, "{instruction:?} at {state:?}");
+            *seen.entry(*reply.as_ref().err().unwrap_or(&0)).or_default() += 1;
+            state = run(&state, &[instruction]);
+            assert!(state.is_sound());
+            assert!(state.definitions.iter().all(|own| !state.imports.contains(own)));
+            let read = read_file(&write_file(&state, &Labels::new()));
+            assert_eq!(read.as_ref(), Ok(&(state.clone(), Labels::new())));
+        }
+    }
+    let replies: Vec<u8> = seen.keys().copied().collect();
+    assert_eq!(replies, [0, 1, 3, 4, 5, 6, 7, 8, 9, 10, 11, 15]);
+    assert!(seen[&0] > 1000 && seen[&15] > 1000, "{seen:?}");
 }
 
 // The small states
 
-/// By hand. One area (two choices), 3 sets of owners, 2 structures: without the object 1, with it 2 imports by 2 exports: 2 * 3 * 2 * 5
-/// = 60. Two areas, 9 sets of owners: without the object 16 structures. With it, defined in one of 2 areas, say in d, the other r: the
-/// pairs (d, d) and (r, r) and the import by d are free, 8. The rest by the pairs (d, r) and (r, d): neither 2 (r has no entry), the
-/// first alone 1 + 4 (by the export of d), the second alone 2 * 3 (r has none, or imports), both 4 + 3; 20. 9 * (16 + 2 * 8 * 20) =
-/// 3,024.
+/// By hand. One area (two choices), 3 sets of owners, 2 structures: without the object 1, with it 2 exports and no import: 2 * 3 * 2 *
+/// 3 = 36. Two areas, 9 sets of owners: without the object 16 structures. With it, defined in one of 2 areas, say in d, the other r:
+/// the pairs (d, d) and (r, r) are free, 4, and d does not import. The rest by the pairs (d, r) and (r, d): neither 2 (r has no entry),
+/// the first alone 1 + 4 (by the export of d), the second alone 2 * 3 (r has none, or imports), both 4 + 3; 20.
+/// 9 * (16 + 2 * 4 * 20) = 1,584.
 #[test]
-fn small_states_are_3084() {
+fn small_states_are_1620() {
     let states = small_states();
-    assert_eq!(states.len(), 60 + 3024);
+    assert_eq!(states.len(), 36 + 1584);
     assert!(states.contains(&State::founding()));
     assert!(states.iter().all(State::is_sound));
+}
+
+/// Document 02, point 14: "A state is a number of 14 bits, lowest first".
+fn bits_of(state: &State) -> u16 {
+    const AREA_PAIRS: [(u8, u8); 4] = [(0, 0), (0, 1), (1, 0), (1, 1)];
+    let bits = |pairs: &BTreeSet<(u8, u8)>, order: &[(u8, u8)]| -> Vec<bool> { order.iter().map(|pair| pairs.contains(pair)).collect() };
+    let all_bits = [
+        bits(&state.owners, &AREA_PAIRS),
+        bits(&state.definitions, &AREA_PAIRS[..2]),
+        bits(&state.structure, &AREA_PAIRS),
+        bits(&state.imports, &AREA_PAIRS[..2]),
+        bits(&state.exports, &AREA_PAIRS[..2]),
+    ];
+    all_bits
+        .concat()
+        .into_iter()
+        .rev()
+        .fold(0, |number, bit| 2 * number + u16::from(bit))
+}
+
+/// Whether the number of 14 bits is a sound state, by its bits alone: no set, no search. A chain between two areas has one step.
+fn bits_are_sound(number: u16) -> bool {
+    let bit = |place: usize| number >> place & 1 == 1;
+    let listed = |area: usize| bit(area) || bit(2 + area);
+    let (defined, imports, exports) = (|area| bit(4 + area), |area| bit(10 + area), |area| bit(12 + area));
+    let structure = |inner: usize, outer: usize| bit(6 + 2 * inner + outer);
+    let in_order = |area: usize| {
+        let other = 1 - area;
+        let by_export = defined(other) && exports(other) && structure(other, area);
+        let by_import = defined(other) && imports(area) && structure(area, other);
+        let named = defined(area) || imports(area) || exports(area) || structure(area, area) || structure(0, 1) || structure(1, 0);
+        let entry = imports(area) || exports(area);
+        (listed(area) || !named) && (!entry || defined(area) || by_export || by_import) && !(imports(area) && defined(area))
+    };
+    (listed(0) || listed(1)) && !(defined(0) && defined(1)) && in_order(0) && in_order(1)
+}
+
+/// Document 02, point 14: "the listing misses none, repeats none and has no other number".
+#[test]
+fn small_states_are_the_sound_numbers_of_14_bits() {
+    let numbers: Vec<u16> = small_states().iter().map(bits_of).collect();
+    let by_bits: BTreeSet<u16> = (0..1 << 14).filter(|&number| bits_are_sound(number)).collect();
+    assert_eq!(by_bits.len(), 1620);
+    assert_eq!(numbers.len(), 1620);
+    assert_eq!(BTreeSet::from_iter(numbers), by_bits);
+    // by hand: F, and area 1 of user 1 in area 0 of user 0, which defines and exports the object that area 1 imports
+    let by_hand = State {
+        users: BTreeSet::from([0, 1]),
+        areas: BTreeSet::from([0, 1]),
+        objects: BTreeSet::from([0]),
+        owners: BTreeSet::from([(0, 0), (1, 1)]),
+        definitions: BTreeSet::from([(0, 0)]),
+        structure: BTreeSet::from([(1, 0)]),
+        imports: BTreeSet::from([(0, 1)]),
+        exports: BTreeSet::from([(0, 0)]),
+    };
+    assert_eq!(
+        (bits_of(&State::founding()), bits_of(&by_hand)),
+        (1, 1 + 8 + 16 + 256 + 2048 + 4096)
+    );
 }
 
 #[test]

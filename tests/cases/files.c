@@ -3,11 +3,11 @@
  * must come is files.out: every example of the refusals 21 to 29, both sides of each limit, two refusals at
  * once, the largest file, labels, and, behind the cases, a good file with each of its bytes changed in turn.
  *
- * A case is a line: two spaces, a name, a colon, a file (good, lent, row, founding, bare, max or none) and
- * changes to it, one space before each. A number is put as the next byte, and @ before a number makes it the
- * place of the next byte. The number after = is the length to which the file is cut, or filled with zeros.
- * With a question mark in place of the colon a label is asked for, and the number after = is the area. A line
- * that begins with no space, and has neither a colon nor a question mark, is a heading.
+ * A case is a line: two spaces, a name, a colon, a file (good, lent, row, founding, bare, max, full or none)
+ * and changes to it, one space before each. A number is put as the next byte, and @ before a number makes it
+ * the place of the next byte. The number after = is the length to which the file is cut, or filled with
+ * zeros. With a question mark in place of the colon a label is asked for, and the number after = is the area.
+ * A line that begins with no space, and has neither a colon nor a question mark, is a heading.
  */
 #include "cases.h"
 
@@ -29,7 +29,7 @@ static const uint8_t good[160] = {
     0, 0, 0, 2, 1, 1, 31, 31,    /* 28: owners */
     9, 1, 10, 0, 63, 31,         /* 36: definitions */
     0, 2, 1, 2, 2, 31, 31, 31,   /* 42: structure */
-    9, 0, 10, 0, 63, 0, 63, 2,   /* 50: imports */
+    9, 0, 9, 31, 63, 0, 63, 2,   /* 50: imports */
     9, 1, 9, 2, 10, 0,           /* 58: exports */
     0, 4, 'H', 'a', 'l', 'l',    /* 64: the label of area 0 */
     [96] = 1, 1, 'B',            /* 96: that of area 1 */
@@ -80,8 +80,15 @@ static const uint8_t bare[28] = {
     FIELD(28), FIELD(28), FIELD(28), FIELD(28), FIELD(28), FIELD(28),
 };
 
-/* The largest file, which make_largest completes behind the header. */
-static uint8_t largest[13468] = {
+/* The largest file that is accepted; `complete` writes what stands behind the header. */
+static uint8_t largest[13340] = {
+    FIELD(1), FIELD(13340),
+    FIELD(1024), FIELD(64), FIELD(1024), FIELD(1984), FIELD(2048), FIELD(32),
+    FIELD(28), FIELD(2076), FIELD(2204), FIELD(4252), FIELD(8220), FIELD(12316),
+};
+
+/* Every count at its limit: the same with the 64 imports more by which an area borrows from itself. */
+static uint8_t full[13468] = {
     FIELD(1), FIELD(13468),
     FIELD(1024), FIELD(64), FIELD(1024), FIELD(2048), FIELD(2048), FIELD(32),
     FIELD(28), FIELD(2076), FIELD(2204), FIELD(4252), FIELD(8348), FIELD(12444),
@@ -89,40 +96,63 @@ static uint8_t largest[13468] = {
 
 /* clang-format on */
 
-/* This many pairs in order: every second number below 32 for each first. */
-static void put_pairs(uint8_t *table, unsigned pairs)
+/* The area of the object's number, counted round from 32 on. */
+static uint8_t definer(uint8_t object)
 {
-    unsigned i;
+    return object % 32;
+}
 
-    for (i = 0; i < pairs; i++) {
-        table[2 * i] = (uint8_t)(i / 32);
-        table[2 * i + 1] = (uint8_t)(i % 32);
+/* Every area for each first number below the given one, in order; returns where the pairs end. */
+static uint8_t *put_pairs(uint8_t *table, uint8_t firsts)
+{
+    uint8_t first, area;
+
+    for (first = 0; first < firsts; first++) {
+        for (area = 0; area < 32; area++) {
+            *table++ = first;
+            *table++ = area;
+        }
     }
+    return table;
+}
+
+/* The same for each object, without the area that defines it. */
+static uint8_t *put_borrowers(uint8_t *table)
+{
+    uint8_t object, area;
+
+    for (object = 0; object < 64; object++) {
+        for (area = 0; area < 32; area++) {
+            if (area != definer(object)) {
+                *table++ = object;
+                *table++ = area;
+            }
+        }
+    }
+    return table;
 }
 
 /*
- * Every pair that there can be; each object defined once, in the area of its number, counted round from 32
- * on; and for each area a label, of 1 to 30 letters in turn.
+ * Each object defined once, every other pair that there can be, and for each area a label, of 1 to 30 letters
+ * in turn. An area borrows from itself only if that is asked for.
  */
-static void make_largest(void)
+static void complete(uint8_t *file, int from_itself)
 {
+    uint8_t *end = put_pairs(file + 28, 32); /* owners */
     uint8_t object, area, i;
 
-    put_pairs(largest + 28, 1024); /* owners */
     for (object = 0; object < 64; object++) {
-        largest[2076 + 2 * object] = object;
-        largest[2076 + 2 * object + 1] = object % 32;
+        *end++ = object;
+        *end++ = definer(object);
     }
-    put_pairs(largest + 2204, 1024); /* structure */
-    put_pairs(largest + 4252, 2048); /* imports */
-    put_pairs(largest + 8348, 2048); /* exports */
-    for (area = 0; area < 32; area++) {
-        uint8_t *label = largest + 12444 + 32 * area;
-
-        label[0] = area;
-        label[1] = area % 30 + 1;
-        for (i = 0; i < label[1]; i++)
-            label[2 + i] = (uint8_t)('a' + i % 26);
+    end = put_pairs(end, 32); /* structure */
+    end = from_itself ? put_pairs(end, 64) : put_borrowers(end);
+    end = put_pairs(end, 64); /* exports */
+    for (area = 0; area < 32; area++, end += 32) {
+        end[0] = area;
+        end[1] = area % 30 + 1;
+        for (i = 0; i < end[1]; i++)
+            end[2 + i] = (uint8_t)('a' + i % 26);
     }
 }
 
@@ -143,7 +173,7 @@ static size_t put_file(const char *name, size_t name_length)
         {"good", good, sizeof good}, {"lent", lent, sizeof lent},
         {"row", row, sizeof row},    {"founding", founding, sizeof founding},
         {"bare", bare, sizeof bare}, {"max", largest, sizeof largest},
-        {"none", bare, 0},
+        {"full", full, sizeof full}, {"none", bare, 0},
     };
     size_t i;
 
@@ -308,7 +338,8 @@ int main(void)
 {
     const char *line;
 
-    make_largest();
+    complete(largest, 0);
+    complete(full, 1);
     printf("0 or the refusal; users, areas, objects, owners, definitions, structure pairs, ");
     printf("imports, exports\n");
     while ((line = next_line()) != NULL)

@@ -54,13 +54,17 @@ static int take_instruction(const char *text, char *worked)
 
 static int take_question(const char *text, char *worked)
 {
+    uint8_t given[PANELRIGHTS_STATE_BYTES];
     uint32_t area, object;
     uint16_t answer;
 
     if (sscanf(text, "area %10" SCNu32 ", object %10" SCNu32, &area, &object) != 2)
         return 0;
     done.questions++;
+    memcpy(given, site, sizeof given);
     answer = panelrights_access(site, PANELRIGHTS_STATE_BYTES, area, object);
+    if (memcmp(site, given, sizeof given) != 0)
+        fail("the question changes the record: %s", text);
     worked += sprintf(worked, "area %" PRIu32 ", object %" PRIu32 ": ", area, object);
     if (answer >= PANELRIGHTS_ACCESS_REFUSED)
         sprintf(worked, "refused %d", answer - PANELRIGHTS_ACCESS_REFUSED);

@@ -26,6 +26,11 @@ static void use_record(uint8_t *state)
     CHECK_NUMBER(panelrights_step(state, PANELRIGHTS_STATE_BYTES, PANELRIGHTS_DEFINE, 0, 31, 63),
                  PANELRIGHTS_OK);
     CHECK_NUMBER(panelrights_access(state, PANELRIGHTS_STATE_BYTES, 31, 63), 0);
+    CHECK_NUMBER(panelrights_step(state, PANELRIGHTS_STATE_BYTES, PANELRIGHTS_ADD_IMPORT, 0, 31, 63),
+                 PANELRIGHTS_OWN_IMPORT);
+    state[IMPORT_AT(63, 31)] = 1;
+    CHECK_NUMBER(panelrights_access(state, PANELRIGHTS_STATE_BYTES, 31, 63),
+                 PANELRIGHTS_ACCESS_REFUSED + PANELRIGHTS_UNSOUND_STATE);
     CHECK_NUMBER(panelrights_read_file(good_file, sizeof good_file, state, PANELRIGHTS_STATE_BYTES),
                  PANELRIGHTS_OK);
 }
@@ -39,7 +44,10 @@ static void use_short_record(uint8_t *state, size_t length)
                  PANELRIGHTS_ACCESS_REFUSED + PANELRIGHTS_UNSOUND_STATE);
 }
 
-/* The first bytes of the good file: all of it is accepted, and fewer are refused. */
+/*
+ * The first bytes of the good file: all of it is accepted, and fewer are refused; and so is all of it with
+ * area 1 for area 0 as the one that imports, since area 1 defines the object.
+ */
 static void use_file(uint8_t *file, size_t length)
 {
     struct guarded site;
@@ -50,6 +58,12 @@ static void use_file(uint8_t *file, size_t length)
     memcpy(file, good_file, length);
     CHECK_NUMBER(panelrights_read_file(file, length, site.state, sizeof site.state), refusal);
     CHECK_NUMBER(panelrights_label(file, length, 2), refusal == PANELRIGHTS_OK ? 78 * 65536 + 30 : 0);
+    if (refusal == PANELRIGHTS_OK) {
+        file[41] = 1;
+        CHECK_NUMBER(panelrights_read_file(file, length, site.state, sizeof site.state),
+                     PANELRIGHTS_FILE_LACKS_ACCESS);
+        CHECK_NUMBER(panelrights_label(file, length, 2), 0);
+    }
 }
 
 void test_edges(void)

@@ -33,6 +33,16 @@ static const uint8_t unreached[36] = {
     9, 0,
 };
 
+/* Area 0 imports object 9, which it defines, and there is nothing else. */
+static const uint8_t own_import[34] = {
+    FIELD(1), FIELD(34),
+    FIELD(1), FIELD(1), FIELD(0), FIELD(1), FIELD(0), FIELD(0),
+    FIELD(28), FIELD(30), FIELD(32), FIELD(32), FIELD(34), FIELD(34),
+    0, 0,
+    9, 0,
+    9, 0,
+};
+
 /* Areas 1 and 2 lie in each other and import object 9 of area 0, which reaches neither. */
 static const uint8_t vouching[44] = {
     FIELD(1), FIELD(44),
@@ -67,6 +77,7 @@ static const struct {
     {76, 1, 5, PANELRIGHTS_FILE_LISTS},        /* a label for area 5, unlisted */
     {37, 1, 5, PANELRIGHTS_FILE_LISTS},        /* area 0 lies in area 5, unlisted */
     {39, 1, 1, PANELRIGHTS_FILE_LACKS_ACCESS}, /* area 1 lies in itself and no longer in area 2 */
+    {41, 1, 1, PANELRIGHTS_FILE_LACKS_ACCESS}, /* area 1 imports the object, which it defines */
 };
 
 /* The file is refused with the number, the record is that of the founding state, and no area has a label. */
@@ -95,6 +106,7 @@ static void test_refused(void)
     refuse(good_file, 27, PANELRIGHTS_FILE_TOO_SHORT);
     refuse(unreached, sizeof unreached, PANELRIGHTS_FILE_LACKS_ACCESS);
     refuse(vouching, sizeof vouching, PANELRIGHTS_FILE_LACKS_ACCESS);
+    refuse(own_import, sizeof own_import, PANELRIGHTS_FILE_LACKS_ACCESS);
     for (i = 0; i < sizeof edits / sizeof *edits; i++) {
         memcpy(file, good_file, sizeof good_file);
         memset(file + edits[i].place, edits[i].byte, edits[i].count);

@@ -1,5 +1,5 @@
-/* The session of document 01, the examples of its table of refusals, the access question, and chains of 8
- * steps and of 9. */
+/* The session of document 01, the examples of its table of refusals, the access question, chains of 8 steps
+ * and of 9, and imports by the area that defines. */
 #include "tests.h"
 
 #include <string.h>
@@ -82,6 +82,15 @@ static const struct {
     {5,
      {{1, 0, 1, 0}, {1, 0, 2, 0}, {7, 0, 0, 9}, {5, 0, 1, 2}, {5, 0, 2, 1}, {9, 0, 1, 9}},
      PANELRIGHTS_WOULD_LACK_ACCESS},
+    /* Area 0 defines object 9, may export it once, and may not import it; 15 comes behind 2, 3, 4 and 5. */
+    {1, {{7, 0, 0, 9}, {9, 0, 0, 9}}, PANELRIGHTS_OWN_IMPORT},
+    {2, {{5, 0, 0, 0}, {7, 0, 0, 9}, {9, 0, 0, 9}}, PANELRIGHTS_OWN_IMPORT},
+    {2, {{7, 0, 0, 9}, {11, 0, 0, 9}, {9, 0, 0, 9}}, PANELRIGHTS_OWN_IMPORT},
+    {2, {{7, 0, 0, 9}, {11, 0, 0, 9}, {11, 0, 0, 9}}, PANELRIGHTS_ALREADY_THERE},
+    {1, {{7, 0, 0, 9}, {9, 32, 0, 9}}, PANELRIGHTS_OUT_OF_RANGE},
+    {1, {{7, 0, 0, 9}, {9, 5, 0, 9}}, PANELRIGHTS_ACTIVATOR_UNLISTED},
+    {2, {{7, 0, 0, 9}, {8, 0, 0, 9}, {9, 0, 0, 9}}, PANELRIGHTS_NOT_LISTED},
+    {3, {{1, 0, 1, 0}, {3, 0, 1, 4}, {7, 0, 0, 9}, {9, 4, 0, 9}}, PANELRIGHTS_NOT_OWNER},
 };
 
 static void test_refusals(void)
@@ -239,10 +248,57 @@ static void test_most_steps(void)
     CHECK_NUMBER(ask(&site, 8, 9), PANELRIGHTS_ACCESS_REFUSED + PANELRIGHTS_UNSOUND_STATE);
 }
 
+/* Code 9 by the definer is refused; with the import written into the record, so is the removal of it. */
+static void refuse_own_import(uint8_t area, uint8_t object)
+{
+    const uint8_t list_area[4] = {PANELRIGHTS_LIST_AREA, 0, area, 0};
+    const uint8_t define[4] = {PANELRIGHTS_DEFINE, 0, area, object};
+    const uint8_t add_import[4] = {PANELRIGHTS_ADD_IMPORT, 0, area, object};
+    const uint8_t remove_import[4] = {PANELRIGHTS_REMOVE_IMPORT, 0, area, object};
+    struct guarded site;
+
+    found(&site);
+    step(&site, list_area, area == 0 ? PANELRIGHTS_ALREADY_THERE : PANELRIGHTS_OK);
+    step(&site, define, PANELRIGHTS_OK);
+    step(&site, add_import, PANELRIGHTS_OWN_IMPORT);
+    step(&site, remove_import, PANELRIGHTS_NOT_THERE);
+    site.state[IMPORT_AT(object, area)] = 1;
+    step(&site, add_import, PANELRIGHTS_UNSOUND_STATE);
+    step(&site, remove_import, PANELRIGHTS_UNSOUND_STATE);
+    CHECK_NUMBER(ask(&site, area, object), PANELRIGHTS_ACCESS_REFUSED + PANELRIGHTS_UNSOUND_STATE);
+}
+
+/*
+ * Each area with each object. Then the state after line 8 of the session, in which area 1 defines object 9,
+ * with an import of it by area 1: every code and every question is 12.
+ */
+static void test_own_imports(void)
+{
+    struct guarded site, given;
+    uint8_t code, area, object;
+
+    for (area = 0; area < PANELRIGHTS_AREAS; area++)
+        for (object = 0; object < PANELRIGHTS_OBJECTS; object++)
+            refuse_own_import(area, object);
+    run_session(&site, 8);
+    site.state[IMPORT_AT(9, 1)] = 1;
+    given = site;
+    for (code = 0; code <= 13; code++) {
+        const uint8_t instruction[4] = {code, 0, 1, 9};
+
+        step(&site, instruction, PANELRIGHTS_UNSOUND_STATE);
+    }
+    ask_edges(&site, 0);
+    CHECK(memcmp(&site, &given, sizeof site) == 0);
+    site.state[IMPORT_AT(9, 1)] = 0;
+    ask_edges(&site, 1);
+}
+
 void test_machine(void)
 {
     test_session();
     test_refusals();
     test_access();
     test_most_steps();
+    test_own_imports();
 }

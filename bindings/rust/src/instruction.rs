@@ -57,7 +57,7 @@ pub enum Kind {
         /// The object.
         object: u8,
     },
-    /// Code 9: the area imports the object, from any area that it lies in.
+    /// Code 9: the area imports the object, which another area defines, from any area that it lies in.
     AddImport {
         /// The area that borrows.
         area: u8,

@@ -93,6 +93,9 @@ refusals! {
     /// The bytes are no record, or the record's state is not sound.
     UnsoundState = 12: "The record of the site is damaged, so nothing is decided on it. Go back to the site file or to the last \
         good copy.";
+    /// The area would import an object that it defines.
+    OwnImport = 15: "The table is stored on this area itself, so the area sees it and has nobody to borrow it from. If another \
+        area is to borrow it, enter that area's number; to lend it to an area around this one, let this one export it.";
 
     /// A file under 28 bytes.
     FileTooShort = 21: "The site file is too short to be one: it is empty or was cut off. Fetch it again from where it was saved.";
@@ -117,10 +120,10 @@ refusals! {
     /// The file has no owner pair, names an unlisted area or object, or defines an object twice.
     FileLists = 28: "The site file names an area that has no owner or a table that is stored nowhere, stores a table in two \
         areas, or has no owner at all. Correct the entry and save the site anew.";
-    /// The file has an import or export pair whose area lacks access.
-    FileLacksAccess = 29: "The site file has an area that imports or exports a table which does not reach it, or only over more \
-        than 8 steps. In the program that wrote the file, take out that import or export or enter a way of at most 8 steps, \
-        and save the site anew.";
+    /// The file has an import or export pair whose area lacks access, or an import pair whose area defines the object.
+    FileLacksAccess = 29: "An area in the site file imports or exports a table that does not reach it within 8 steps, or imports a \
+        table that is stored on that same area. In the program that wrote the file, take that import or export out, or enter a \
+        way of at most 8 steps where one is missing, and save the site anew.";
 
     /// The state buffer has another length than a record.
     BufferLength = 31: "The record of the site has the wrong length. The program that kept it is at fault: tell its maker, and go \

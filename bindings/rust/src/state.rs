@@ -100,7 +100,8 @@ impl State {
         self.record.as_slice()
     }
 
-    /// Obeys one instruction, given by name or as four bytes. After a refusal, 1 to 11, the state is the one before.
+    /// Obeys one instruction, given by name or as four bytes. After a refusal, 1 to 11 or 15, the state is the one
+    /// before.
     ///
     /// ```
     /// use panelrights::{Kind, Refusal, State};

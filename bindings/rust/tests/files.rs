@@ -71,6 +71,49 @@ fn rows_of_8_steps_and_of_9() {
     }
 }
 
+/// Area 1 lies in area 0, which defines object 9: area 1 may import it, and area 0 may not.
+#[test]
+fn imports_by_the_area_that_defines() {
+    let borrowed = |importer: u8, labels: &[(u8, &str)]| {
+        file([&[[0, 0], [0, 1]], &[[9, 0]], &[[1, 0]], &[[9, importer]], &[[9, 0]]], labels)
+    };
+    assert_eq!(read_file(&borrowed(1, &[])).unwrap().access(1, 9), Ok(Some(1)));
+    assert_eq!(label(&borrowed(1, &[(1, "x")]), 1), Some("x"));
+    assert_eq!(read_file(&borrowed(0, &[])), Err(Refusal::FileLacksAccess));
+    assert_eq!(label(&borrowed(0, &[(1, "x")]), 1), None);
+    // 26, 27 and 28 come before.
+    assert_eq!(read_file(&borrowed(0, &[(1, "\n")])), Err(Refusal::FileRange));
+    assert_eq!(read_file(&borrowed(0, &[(1, "x"), (0, "x")])), Err(Refusal::FileOrder));
+    assert_eq!(read_file(&borrowed(0, &[(5, "x")])), Err(Refusal::FileLists));
+}
+
+/// Every area with each first number below this.
+fn every_pair(firsts: u8) -> Vec<[u8; 2]> {
+    (0..firsts).flat_map(|first| (0..32).map(move |area| [first, area])).collect()
+}
+
+/// These imports, and of all else as much as there can be; objects 0 and 32 are defined in area 0, and so on.
+fn largest(imports: &[[u8; 2]]) -> Vec<u8> {
+    let definitions: Vec<_> = (0..64).map(|object| [object, object % 32]).collect();
+    let labels: Vec<_> = (0..32).map(|area| (area, THIRTY)).collect();
+    file([&every_pair(32), &definitions, &every_pair(32), imports, &every_pair(64)], &labels)
+}
+
+/// 1,984 imports are by areas that do not define the object. All 2,048 are within the limit of the count, and are 29.
+#[test]
+fn the_largest_file() {
+    let mut borrowed = every_pair(64);
+    borrowed.retain(|[object, area]| *area != object % 32);
+    let accepted = largest(&borrowed);
+    assert_eq!((borrowed.len(), accepted.len()), (1984, 13_340));
+    assert_eq!(read_file(&accepted).unwrap().access(31, 0), Ok(Some(1)));
+    assert_eq!(label(&accepted, 31), Some(THIRTY));
+    let full = largest(&every_pair(64));
+    assert_eq!(full.len(), 13_468);
+    assert_eq!(read_file(&full).err(), Some(Refusal::FileLacksAccess));
+    assert_eq!(label(&full, 31), None);
+}
+
 /// Each refused file, with a label asked for that the file would have.
 #[test]
 fn refused_files() {
@@ -88,6 +131,7 @@ fn refused_files() {
         (file([&[[0, 0]], &[], &[], &[], &[]], &[(1, "x"), (5, "x")]), Refusal::FileLists),
         (file([&[], &[], &[], &[], &[]], &[]), Refusal::FileLists),
         (file([&[[0, 0], [0, 1]], &[[9, 1]], &[], &[[9, 0]], &[]], &[(1, "x")]), Refusal::FileLacksAccess),
+        (file([&[[0, 0], [0, 1]], &[[9, 1]], &[], &[[9, 1]], &[]], &[(1, "x")]), Refusal::FileLacksAccess),
     ];
     for (file, refusal) in bad {
         assert_eq!(read_file(&file), Err(refusal), "{} bytes", file.len());

@@ -1,4 +1,5 @@
-//! The session of document 01, its examples of refused instructions, and chains of 8 steps and of 9.
+//! The session of document 01, its examples of refused instructions, chains of 8 steps and of 9, and imports by the
+//! area that defines.
 
 use panelrights::{Instruction, Kind, Refusal, State};
 
@@ -114,6 +115,7 @@ fn refusals_of_an_instruction() {
     refused(&[[1, 0, 1, 0], [7, 0, 0, 9]], [9, 0, 1, 9], 10);
     let lent = SESSION[..8].iter().filter(|(_, number)| *number == 0).map(|(instruction, _)| *instruction);
     refused(&lent.collect::<Vec<_>>(), [12, 0, 1, 9], 11);
+    refused(&[[7, 0, 0, 9]], [9, 0, 0, 9], 15);
 }
 
 #[test]
@@ -122,6 +124,11 @@ fn the_first_refusal_in_order() {
     refused(&[], [1, 32, 1, 0], 2);
     refused(&[], [2, 5, 0, 1], 2);
     refused(&[], [4, 5, 0, 0], 3);
+    // Area 0 defines object 9: 15 comes behind 2, 3, 4 and 5.
+    refused(&[[7, 0, 0, 9]], [9, 32, 0, 9], 2);
+    refused(&[[7, 0, 0, 9]], [9, 5, 0, 9], 3);
+    refused(&[[7, 0, 0, 9], [8, 0, 0, 9]], [9, 0, 0, 9], 4);
+    refused(&[[7, 0, 0, 9], [1, 0, 1, 0], [3, 0, 1, 4]], [9, 4, 0, 9], 5);
 }
 
 /// Places where a reader of document 01 could go wrong.
@@ -216,6 +223,39 @@ fn records_with_an_import_by_8_steps_and_by_9() {
     };
     assert_eq!(written(8).unwrap().access(8, 63), Ok(Some(8)));
     assert_eq!(written(9), Err(Refusal::UnsoundState));
+}
+
+/// Area 1 lies in area 0, which defines object 9 and exports it; user 0 owns both.
+#[test]
+fn imports_by_the_area_that_defines() {
+    let mut state = after(&[[1, 0, 1, 0], [5, 0, 1, 0], [7, 0, 0, 9], [11, 0, 0, 9], [9, 0, 1, 9]]);
+    let given = state.clone();
+    let own = Kind::AddImport { area: 0, object: 9 }.by(0);
+    assert_eq!(state.step(own), Err(Refusal::OwnImport));
+    assert_eq!(state.step(Kind::RemoveImport { area: 0, object: 9 }.by(0)), Err(Refusal::NotThere));
+    assert_eq!(state, given);
+    assert_eq!((state.access(0, 9), state.access(1, 9)), (Ok(Some(0)), Ok(Some(1))));
+    // Area 1 defines it now. It is area 0 that may import it, and area 1 that may not.
+    obey(&mut state, &[[10, 0, 1, 9], [12, 0, 0, 9], [8, 0, 0, 9], [7, 0, 1, 9], [11, 0, 1, 9]]);
+    assert_eq!(state.step(own), Ok(()));
+    assert_eq!(state.step([9, 0, 1, 9]), Err(Refusal::OwnImport));
+    assert_eq!((state.imports(9, 0), state.imports(9, 1)), (true, false));
+}
+
+/// An import or an export that is written into a kept record, by the area that defines the object.
+#[test]
+fn records_with_an_entry_of_the_area_that_defines() {
+    for (area, object) in [(0, 0), (0, 63), (31, 0), (31, 63), (5, 9)] {
+        let define = [7, 0, area, object];
+        let state = if area == 0 { after(&[define]) } else { after(&[[1, 0, area, 0], define]) };
+        let written = |start: usize| {
+            let mut record = state.as_record().to_vec();
+            record[start + usize::from(object) * 32 + usize::from(area)] = 1;
+            State::from_record(&record)
+        };
+        assert_eq!(written(4224), Err(Refusal::UnsoundState), "{area} imports {object}");
+        assert!(written(6272).unwrap().exports(object, area), "{area} exports {object}");
+    }
 }
 
 #[test]

@@ -4,7 +4,7 @@ use panelrights::{NoRefusal, Refusal};
 use std::collections::HashSet;
 
 fn named() -> impl Iterator<Item = u8> {
-    (1..=12).chain(21..=29).chain([31])
+    (1..=12).chain([15]).chain(21..=29).chain([31])
 }
 
 #[test]
@@ -20,7 +20,7 @@ fn each_number_has_one_refusal() {
     assert_eq!(Refusal::Unknown(200).number(), 200);
 }
 
-/// Each name against the number of document 01, or of the header for 31.
+/// Each name against the number of documents 01 and 02, or of the header for 31.
 #[test]
 fn each_name_has_its_number() {
     let numbers = [
@@ -36,6 +36,7 @@ fn each_name_has_its_number() {
         (Refusal::WouldLackAccess, 10),
         (Refusal::WouldLoseAccess, 11),
         (Refusal::UnsoundState, 12),
+        (Refusal::OwnImport, 15),
         (Refusal::FileTooShort, 21),
         (Refusal::FileVersion, 22),
         (Refusal::FileLength, 23),
@@ -61,12 +62,18 @@ fn each_has_words_of_its_own() {
     for refusal in all {
         let words = refusal.to_string();
         assert!(words.ends_with('.') && words.is_ascii() && !words.contains("  "), "{words}");
+        assert!(words.contains(". "), "what is wrong, and what would help: {words}");
         assert!(seen.insert(words), "{refusal:?} has the words of another");
     }
     assert_eq!(
         Refusal::LastOne.to_string(),
         "Each area keeps an owner, and each site an area: the last one can't go. Add another one first."
     );
+    let own_import = Refusal::OwnImport.to_string();
+    for said in ["stored on this area", "nobody to borrow it from", "another area", "export it"] {
+        assert!(own_import.contains(said), "{own_import}");
+    }
+    assert!(Refusal::FileLacksAccess.to_string().contains("imports a table that is stored on that same area"));
     assert!(Refusal::Unknown(200).to_string().contains("200"));
     assert_eq!(NoRefusal(0).to_string(), "0 is the number of no refusal");
 }

@@ -10,7 +10,7 @@ use mathlib.Core.List.{List, _∷_, _++_}
 use native.Mathlib.Decide.{ℕ-discrete}
 use lib.Dec.{T, eqb, ltb}
 use borrow.Author.Tests.{eqb-true, eq-eqb, ltb-true}
-use Rattle.state.specs.Site.{Kind, user, area, object, limit, listed, withListed, Relation, owner, definition, structure, import, export, firstKind, related, withPair, owns, defines, Shaped}
+use Rattle.state.specs.Site.{Kind, user, area, object, limit, listed, withListed, Relation, owner, definition, structure, import, export, firstKind, related, withPair, owns, defines, imports, Shaped}
 use Rattle.state.specs.Walk.{someMember, somePair, hasFirst, hasSecond}
 use Rattle.state.specs.Site.{Site}
 use Rattle.state.proofs.Bools.{is-true, holds, fails, and-both, and-left, and-right, not-so, so-not, so, neither, fails-both}
@@ -30,7 +30,7 @@ use Rattle.refusals.specs.Refusals.{soleOwner, onlyArea, otherOwner, inUse, ear
 use Rattle.instructions.specs.declared.Rule.{Rule}
 use Rattle.guarantees.proofs.Rows.{Row, lists-area, unlists-area, adds-owner, removes-owner, adds-structure, removes-structure}
 use Rattle.guarantees.proofs.Rows.{adds-definition, removes-definition, adds-import, removes-import, adds-export, removes-export}
-use Rattle.guarantees.proofs.Parts.{different, different-kind, consistent-add, consistent-remove, consistent-list, Unnamed, consistent-unlist, consistent-without, once-same, acceptable-pair, acceptable-more, users-without, areas-without, valid-same, valid-add}
+use Rattle.guarantees.proofs.Parts.{different, different-kind, consistent-add, consistent-remove, consistent-list, Unnamed, consistent-unlist, consistent-without, once-same, acceptable-pair, acceptable-more, users-without, areas-without, valid-same, valid-add, own-add, own-remove}
 
 -- ---- truth values of a check that is not met
 pub both-so : (p q : Bool) → not (p && q) ≡ false → T p × T q
@@ -84,6 +84,7 @@ module _ (s : Site) (h : Sound s) where
             (λ o q. once-same s (owner-more k i u a) o (λ c. refl) (h .acceptable .objects o (old o q)));
         some-area = (a, ha);
         valid = valid-same s (owner-more k i u a) (λ o. refl) (h .valid);
+        no-own-import = h .no-own-import;
       }
     where
       t : Site
@@ -117,6 +118,7 @@ module _ (s : Site) (h : Sound s) where
             };
         some-area = h .some-area;
         valid = valid-same s (withoutOwner s u a) (λ o. refl) (h .valid);
+        no-own-import = h .no-own-import;
       }
     where
       go : (c : ℕ) → T (listed s area c) → Dec (c ≡ a) → (v : ℕ) × T (owns (withoutOwner s u a) v c)
@@ -182,6 +184,7 @@ module _ (s : Site) (h : Sound s) where
             };
         some-area = other-area u a more;
         valid = valid-same s (area-less u a) (λ o. refl) (h .valid);
+        no-own-import = h .no-own-import;
       }
     where
       go : (c : ℕ) → T (listed (area-less u a) area c) → Dec (c ≡ a) → (v : ℕ) × T (owns (area-less u a) v c)
@@ -201,6 +204,7 @@ module _ (s : Site) (h : Sound s) where
         acceptable = record { users = h .acceptable .users; areas = h .acceptable .areas; objects = λ o q. once o q (ℕ-discrete o b) };
         some-area = h .some-area;
         valid = valid-add t definition b a (λ e. absurd (no-entry e)) (valid-same s t (λ o. refl) (h .valid));
+        no-own-import = own-add t definition b a (λ e. absurd (no-entry (inl e))) (λ e p. not-imported p) (h .no-own-import);
       }
     where
       t : Site
@@ -215,6 +219,10 @@ module _ (s : Site) (h : Sound s) where
       no-entry : (import ≡ definition) ⊎ (export ≡ definition) → ⊥
       no-entry (inl e) = different import definition tt e
       no-entry (inr e) = different export definition tt e
+
+      -- an import would have named the object
+      not-imported : T (imports s b a) → ⊥
+      not-imported p = fails new (h .consistent import b a p .first)
 
       only : (c : ℕ) → T (defines (object-more a b) b c) → ((definition ≡ definition) × (b ≡ b) × (c ≡ a)) ⊎ (defines (object-more a b) b c ≡ defines s b c) → c ≡ a
       only c p (inl e) = e .2
@@ -250,6 +258,7 @@ module _ (s : Site) (h : Sound s) where
         acceptable = record { users = h .acceptable .users; areas = h .acceptable .areas; objects = λ o q. once o q (ℕ-discrete o b) };
         some-area = h .some-area;
         valid = v;
+        no-own-import = own-remove s definition b a (h .no-own-import);
       }
     where
       t : Site
@@ -287,14 +296,16 @@ module _ (s : Site) (h : Sound s) where
     some-area-pair : (v : Bool) → (c : ℕ) × T (listed (withPair s r i j v) area c)
     some-area-pair v = (h .some-area .0, h .some-area .1)
 
-    pair-add : Named s r i j → ((import ≡ r) ⊎ (export ≡ r) → T (access (lending (withPair s r i j true) i) j)) → Sound (withPair s r i j true)
-    pair-add names entry =
+    pair-add : Named s r i j → ((import ≡ r) ⊎ (export ≡ r) → T (access (lending (withPair s r i j true) i) j)) → (import ≡ r → T (defines s i j) → ⊥)
+        → Sound (withPair s r i j true)
+    pair-add names entry borrowed =
         record {
           shaped = relate-shaped s r i j true (h .shaped);
           consistent = consistent-add s r i j (h .consistent) names;
           acceptable = acceptable-pair s r i j true no-owner no-definition (h .acceptable);
           some-area = some-area-pair true;
           valid = valid-add s r i j entry (h .valid);
+          no-own-import = own-add s r i j borrowed (λ e. absurd (no-definition e)) (h .no-own-import);
         }
 
     pair-remove : Valid (withPair s r i j false) → Sound (withPair s r i j false)
@@ -305,15 +316,17 @@ module _ (s : Site) (h : Sound s) where
           acceptable = acceptable-pair s r i j false no-owner no-definition (h .acceptable);
           some-area = some-area-pair false;
           valid = v;
+          no-own-import = own-remove s r i j (h .no-own-import);
         }
 
-  -- codes 9 and 11: an entry of object b, whose area a has access
+  -- codes 9 and 11: an entry of object b, whose area a has access and, to import it, does not define it
   entry-add : (r : Relation) → (owner ≡ r → ⊥) → (definition ≡ r → ⊥) → firstKind r ≡ object → (a b : ℕ)
-      → not (listed s area a && listed s object b) ≡ false → not (access (lending (withPair s r b a true) b) a) ≡ false → Sound (withPair s r b a true)
-  entry-add r no-owner no-definition kind a b names reaches =
+      → not (listed s area a && listed s object b) ≡ false → not (access (lending (withPair s r b a true) b) a) ≡ false
+      → (import ≡ r → T (defines s b a) → ⊥) → Sound (withPair s r b a true)
+  entry-add r no-owner no-definition kind a b names reaches borrowed =
       let n = both-so (listed s area a) (listed s object b) names in
       pair-add r no-owner no-definition b a (record { first = subst (λ (k : Kind). T (listed s k b)) (sym kind) (n .1); second = n .0 })
-      (λ e. so (access (lending (withPair s r b a true) b) a) reaches)
+      (λ e. so (access (lending (withPair s r b a true) b) a) reaches) borrowed
 
   -- codes 6, 10 and 12: a pair whose loss leaves the state valid
   valid-cut : (r : Relation) → (owner ≡ r → ⊥) → (definition ≡ r → ⊥) → (i j : ℕ) → not (isValid (withPair s r i j false)) ≡ false → Sound (withPair s r i j false)
@@ -340,12 +353,15 @@ module _ (s : Site) (h : Sound s) where
       let n = both-so (listed s area a) (listed s area b) (y .passes 4) in
       pair-add structure (different owner structure tt) (different definition structure tt) a b (record { first = n .0; second = n .1 })
       (λ e. ⊎-elim (λ q. absurd (different import structure tt q)) (λ q. absurd (different export structure tt q)) e)
+      (λ e. absurd (different import structure tt e))
   accepted-sound removes-structure u a b y = valid-cut structure (different owner structure tt) (different definition structure tt) a b (y .passes 11)
   accepted-sound adds-definition u a b y =
       object-add a b (below b (limit object) (in-range (ltb u (limit user)) (ltb a (limit area)) (ltb b (limit object)) (y .in-range) .1)) (so (listed s area a) (y .passes 4)) (y .passes 6)
   accepted-sound removes-definition u a b y =
       object-remove a b (so (defines s b a) (y .passes 7)) (valid-decided (object-less a b) .0 (so (isValid (object-less a b)) (y .passes 11)))
   accepted-sound adds-import u a b y = entry-add import (different owner import tt) (different definition import tt) refl a b (y .passes 4) (y .passes 10)
+      (λ e. fails (y .passes 15))
   accepted-sound removes-import u a b y = valid-cut import (different owner import tt) (different definition import tt) b a (y .passes 11)
   accepted-sound adds-export u a b y = entry-add export (different owner export tt) (different definition export tt) refl a b (y .passes 4) (y .passes 10)
+      (λ e. absurd (different import export tt e))
   accepted-sound removes-export u a b y = valid-cut export (different owner export tt) (different definition export tt) b a (y .passes 11)

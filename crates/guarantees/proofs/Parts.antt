@@ -2,13 +2,13 @@
 -- twelve codes are made of these.
 -- Assumes nothing.
 use Prim.Native.Nat.{ℕ}
-use mathlib.Core.Path.{_≡_, refl, sym, ap, subst}
+use mathlib.Core.Path.{_≡_, refl, sym, ap, subst, _∙_}
 use mathlib.Core.Logic.{_⊎_, inl, inr}
 use mathlib.Core.Bool.{Bool, true, false, _&&_, not}
 use native.Mathlib.Decide.{ℕ-discrete}
 use lib.Dec.{T, eqb}
 use borrow.Author.Tests.{eq-eqb}
-use Rattle.state.specs.Site.{Kind, user, area, object, kindNumber, listed, withListed, Relation, owner, definition, structure, import, export, firstKind, related, relationNumber, withPair, owns, defines, Shaped}
+use Rattle.state.specs.Site.{Kind, user, area, object, kindNumber, listed, withListed, Relation, owner, definition, structure, import, export, firstKind, related, relationNumber, withPair, owns, defines, imports, Shaped}
 use Rattle.state.specs.Walk.{hasFirst}
 use Rattle.state.specs.Site.{Site}
 use Rattle.state.proofs.Bools.{and-both, and-right, holds, fails}
@@ -16,7 +16,7 @@ use Rattle.state.proofs.Laws.{listed-other, listed-else, list-keeps-listed, unl
 use Rattle.access.specs.Lending.{Lending, lending}
 use Rattle.access.specs.Answer.{access}
 use Rattle.access.proofs.Laws.{more-keeps-access, added-is-included}
-use Rattle.soundness.specs.Sound.{Named, Consistent, DefinedOnce, Acceptable, Valid}
+use Rattle.soundness.specs.Sound.{Named, Consistent, DefinedOnce, Acceptable, Valid, NoOwnImport}
 use Rattle.successors.specs.Successor.{withoutOwner}
 
 -- ---- numbers and pairs
@@ -195,3 +195,23 @@ valid-add s r i j new v =
         → ((e ≡ r) × (o ≡ i) × (a ≡ j)) ⊎ (related t e o a ≡ related s e o a) → T (access (lending t o) a)
     go e o a entry old h (inl q) = rw (q .1, q .2) (new (entry (q .0)))
     go e o a entry old h (inr q) = more-keeps-access (lending s o) (lending t o) (added-is-included s r i j o) a (old (subst T q h))
+
+-- ---- no own import
+-- one pair more: as an import it is not of what the area defines, as a definition not of what the area imports
+pub own-add : (s : Site) (r : Relation) (i j : ℕ) → (import ≡ r → T (defines s i j) → ⊥) → (definition ≡ r → T (imports s i j) → ⊥)
+    → NoOwnImport s → NoOwnImport (withPair s r i j true)
+own-add s r i j new-import new-definition h o a p d = go (related-else s r import i j o a true) (related-else s r definition i j o a true)
+  where
+    t : Site
+    t = withPair s r i j true
+
+    go : ((import ≡ r) × (o ≡ i) × (a ≡ j)) ⊎ (imports t o a ≡ imports s o a)
+        → ((definition ≡ r) × (o ≡ i) × (a ≡ j)) ⊎ (defines t o a ≡ defines s o a) → ⊥
+    go (inl e) (inl q) = different import definition tt (e .0 ∙ sym (q .0))
+    go (inl e) (inr q) = new-import (e .0) (rw (e .1, e .2) at (subst T q d))
+    go (inr e) (inl q) = new-definition (q .0) (rw (q .1, q .2) at (subst T e p))
+    go (inr e) (inr q) = h o a (subst T e p) (subst T q d)
+
+pub own-remove : (s : Site) (r : Relation) (i j : ℕ) → NoOwnImport s → NoOwnImport (withPair s r i j false)
+own-remove s r i j h o a p d =
+    h o a (remove-adds-none s r import i j o a p) (remove-adds-none s r definition i j o a d)

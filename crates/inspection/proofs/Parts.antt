@@ -3,24 +3,27 @@
 --     named-by-rows                        each pair of a relation names what is listed
 --     once-is-single                       exactly one pair has the number
 --     own-turned                           an area's owners, read in the owner pairs turned round
+--     disjoint-by-cells                    no pair is in both relations
 -- Assumes nothing.
-use Prim.Native.Nat.{ℕ, _+_, _*_, _<_}
+use Prim.Native.Nat.{ℕ, _+_, _*_, _/_, _%_, _<_}
 use mathlib.Core.Path.{_≡_, refl, sym, ap, subst, _∙_}
 use mathlib.Core.Bool.{Bool, true, false, _&&_, _||_, not}
+use mathlib.Core.Logic.{_↔_, inr}
 use native.Mathlib.Omega.{arith}
+use native.Mathlib.Decide.{decLt}
 use borrow.Author.Tests.{eqb-true, eq-eqb}
 use lib.Dec.{T, eqb}
 use lib.ListN.{length, getD}
 use Rattle.state.specs.Cells.{Members, Pairs, width, member, pair}
 use Rattle.state.specs.Walk.{eachMember, hasFirst, hasSecond}
-use Rattle.state.proofs.Bools.{and-both, and-left, and-right, is-true, holds, same-test, implied, implies}
-use Rattle.state.proofs.Laws.{member-cell, pair-cell, each-member, has-first, has-second, member-inside, pair-area, pair-first}
+use Rattle.state.proofs.Bools.{and-both, and-left, and-right, is-true, holds, fails, same-test, not-so, so-not, implied, implies}
+use Rattle.state.proofs.Laws.{member-cell, pair-cell, pair-past, each-member, each-pair, has-first, has-second, member-inside, pair-area, pair-first}
 use Rattle.rows.specs.Rows.{row, transpose}
 use Rattle.rows.proofs.Laws.{row-reads, transpose-reads}
 use Rattle.access.specs.Answer.{Areas, has}
 use Rattle.state.specs.Below.{eachBelow, countBelow}
 use Rattle.inspection.specs.Parts.{cellNamed}
-use Rattle.soundness.specs.Tests.{named, allOwn, allOwned, once}
+use Rattle.soundness.specs.Tests.{named, allOwn, allOwned, once, disjoint}
 use Rattle.state.proofs.Below.{each-goes, each-at, each-by, each-stop, each-done, Single, count-one, one-counted}
 use Rattle.soundness.proofs.Tests.{named-decided, Once, once-decided}
 
@@ -136,3 +139,44 @@ own-turned areas owners la lo =
   where
     listed : (a : ℕ) → T (member areas a) → a < width
     listed a m = let h : a < length areas = member-inside areas a m in omega arith
+
+-- ---- two relations
+-- there is no pair at place k of both
+abbrev pub cellApart : (these those : Pairs) → ℕ → Bool
+cellApart these those k = not (getD these k false && getD those k false)
+
+-- the pair whose place is k
+pair-at : (c : Pairs) (k : ℕ) → pair c (k / width) (k % width) ≡ getD c k false
+pair-at c k = pair-cell c (k / width) (k % width) (omega arith) ∙ ap (λ (n : ℕ). getD c n false) (omega arith)
+
+-- a pair that is there has a place
+pair-placed : (c : Pairs) (i j : ℕ) → T (pair c i j) → i * width + j < length c
+pair-placed c i j p = go (decLt (i * width + j) (length c))
+  where
+    go : Dec (i * width + j < length c) → i * width + j < length c
+    go (yes h) = h
+    go (no h) = absurd (fails (pair-past c i j (inr (omega arith))) p)
+
+pub disjoint-by-cells : (these those : Pairs) → disjoint these those ≡ eachBelow (length these) (cellApart these those)
+unfolding disjoint
+disjoint-by-cells these those =
+    same-test (disjoint these those) (eachBelow (length these) (cellApart these those))
+    (λ t. each-by (cellApart these those) (length these) (λ k h. so-not (both k) (there k (decided .0 t (k / width) (k % width)))))
+    (λ t. decided .1 (λ i j p. so-not (pair those i j) (back i j p (each-at (cellApart these those) (length these) t (i * width + j) (pair-placed these i j p)))))
+  where
+    both : ℕ → Bool
+    both k = getD these k false && getD those k false
+
+    decided : T (disjoint these those) ↔ ((i j : ℕ) → T (pair these i j) → T (not (pair those i j)))
+    decided = each-pair these (λ i j. not (pair those i j))
+
+    there : (k : ℕ) → (T (pair these (k / width) (k % width)) → T (not (pair those (k / width) (k % width)))) → T (both k) → ⊥
+    there k apart b =
+        not-so (pair those (k / width) (k % width)) (apart (subst T (sym (pair-at these k)) (and-left (getD these k false) (getD those k false) b)))
+        (subst T (sym (pair-at those k)) (and-right (getD these k false) (getD those k false) b))
+
+    back : (i j : ℕ) → T (pair these i j) → T (cellApart these those (i * width + j)) → T (pair those i j) → ⊥
+    back i j p apart q =
+        let h = pair-area these i j p in
+        not-so (both (i * width + j)) apart
+        (and-both (getD these (i * width + j) false) (getD those (i * width + j) false) (subst T (pair-cell these i j h) p) (subst T (pair-cell those i j h) q))

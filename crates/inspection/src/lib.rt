@@ -1,4 +1,5 @@
-// Whether a record is sound: consistent, acceptable, with at least one area, and valid.
+// Whether a record is sound: consistent, acceptable, with at least one area, valid, and without an import by the area
+// that defines the object.
 ghost use mathlib.Core.Path.{_≡_};
 ghost use mathlib.Core.Logic.{_↔_};
 ghost use Prim.Native.Nat.{_+_, _*_, _≤_};
@@ -6,11 +7,11 @@ ghost use lib.Dec.{T, eqb};
 ghost use lib.ListN.{length};
 ghost use Rattle.state.specs.Below.{eachBelow, countBelow};
 ghost use Rattle.access.specs.Answer.{has};
-ghost use Rattle.soundness.specs.Sound.{Sound};
+ghost use Rattle.soundness.specs.Sound.{NoOwnImport, Sound};
 ghost use Rattle.state.specs.Site.{area, members};
 ghost use Rattle.state.specs.Stands.{site};
 ghost use Rattle.soundness.specs.Tests.{named, allOwn, allOwned, allDefined, someListed};
-ghost use Rattle.soundness.specs.Tests.{isConsistent, isAcceptable, isWellFormed, isSound};
+ghost use Rattle.soundness.specs.Tests.{isConsistent, isAcceptable, isWellFormed, disjoint, noOwnImport, isSound};
 ghost use Rattle.inspection.specs.Parts.{cellNamed};
 use state::State;
 
@@ -91,6 +92,18 @@ fn has_member(set: &[bool]) -> bool
     false
 }
 
+// Is no pair in both relations?
+fn are_disjoint<'a>(these: &'a [bool], those: &'a [bool]) -> bool
+    requires { ⌜ length (now these) ≡ length (now those) ⌝ }
+    ensures { λ r. ⌜ r ≡ disjoint (now (these .entry)) (now (those .entry)) ⌝ }
+{
+    let mut fits = true;
+    for k in 0..these.len() {
+        fits = fits & !(these[k] & those[k]);
+    }
+    fits
+}
+
 // Is whatever a pair names listed?
 fn is_consistent(s: State) -> bool
     ensures { λ r. ⌜ r ≡ isConsistent (site s) ⌝ }
@@ -123,7 +136,7 @@ pub fn has_area(s: State) -> bool
     has_member(&s.areas)
 }
 
-// Is the record sound but for validity: consistent, acceptable, with at least one area?
+// Is the record consistent and acceptable, with at least one area?
 pub fn is_well_formed(s: State) -> bool
     ensures { λ r. ⌜ r ≡ isWellFormed (site s) ⌝ }
 {
@@ -136,6 +149,14 @@ pub fn is_well_formed(s: State) -> bool
     has_area(s)
 }
 
+// Does no area import an object that it defines? Any content may be asked about.
+pub fn has_no_own_import(s: State) -> bool
+    ensures equation { λ r. ⌜ r ≡ noOwnImport (site s) ⌝ }
+    ensures meaning { λ r. ⌜ T r ↔ NoOwnImport (site s) ⌝ }
+{
+    are_disjoint(&s.imports, &s.definitions)
+}
+
 // Is the record sound? Any content may be asked about.
 pub fn is_sound(s: State) -> bool
     ensures equation { λ r. ⌜ r ≡ isSound (site s) ⌝ }
@@ -144,5 +165,8 @@ pub fn is_sound(s: State) -> bool
     if !is_well_formed(s) {
         return false;
     }
-    validity::is_valid(s)
+    if !validity::is_valid(s) {
+        return false;
+    }
+    has_no_own_import(s)
 }

@@ -19,7 +19,8 @@ LateByResult =
     (s : Site) → Shaped s → (r : Rule) (u a b : ℕ)
     → lateChecks s r u a b ≡ resultChecks (changed s (r .target) (r .adds) u a b) (r .target) (r .adds) a b
 
--- "Order of checks: 12 first, then 1 to 11 upwards", for bytes that fit an instruction. For others the table ends at 2.
+-- "Order of checks: 12 first, then 1 to 11 upwards", with 15 "after 7 and before 8" (document 02, point 4), for bytes
+-- that fit an instruction. For others the table ends at 2.
 abbrev pub RefusalOrder : Type 0
 RefusalOrder =
     (s : Site) (bytes : Bytes) (x : Instruction) → decodeOf bytes ≡ Fits x

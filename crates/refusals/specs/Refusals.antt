@@ -1,7 +1,7 @@
--- The refusals of an instruction (document 01, 'Refusals of an instruction'): each condition with the paper's words,
--- and the table in the paper's order. 1 and 2 are the decoder's (instructions, Decode). The early ones depend on the
--- row of the instruction and on what is read of the state (readings, `seenOf`), the late ones on the state and what it
--- would become.
+-- The refusals of an instruction (document 01, 'Refusals of an instruction'; 15 is of document 02, point 4): each
+-- condition with the papers' words, and the table in the papers' order. 1 and 2 are the decoder's (instructions,
+-- Decode). The early ones depend on the row of the instruction and on what is read of the state (readings, `seenOf`),
+-- the late ones on the state and what it would become.
 use Prim.Native.Nat.{ℕ}
 use mathlib.Core.Bool.{Bool, true, false, _&&_, _||_, not}
 use mathlib.Core.List.{List, [], _∷_, _++_}
@@ -74,6 +74,15 @@ absent v Structure = not (v .inside)
 absent v Import = not (v .imported)
 absent v Export = not (v .exported)
 
+-- ---- 15: "Code 9 by the defining area"
+abbrev pub ownImport : Seen → Target → Bool
+ownImport v TheArea = false
+ownImport v Owner = false
+ownImport v Definition = false
+ownImport v Structure = false
+ownImport v Import = v .defined
+ownImport v Export = false
+
 -- ---- 8: "code 4 on the sole owner of a; code 2 on the only listed area"
 -- no other user than u owns area a; that he does is asked before (7)
 abbrev pub soleOwner : Site → (u a : ℕ) → Bool
@@ -134,6 +143,7 @@ earlyChecks v r =
     ∷ (5 when not (entitled v (r .ownership)))
     ∷ (6 when r .adds && present v (r .target))
     ∷ (7 when not (r .adds) && absent v (r .target))
+    ∷ (15 when r .adds && ownImport v (r .target))
     ∷ []
 
 -- late: what the instruction would lead to; "the state it would give" is `changed` (successors)
@@ -160,6 +170,7 @@ checksOf s bytes OutOfRange = []
 abbrev pub refusals : Site → Bytes → List Check
 refusals s bytes = (12 when not (isSound s)) ∷ (misfits (decodeOf bytes) ++ checksOf s bytes (decodeOf bytes))
 
--- "Order of checks: 12 first, then 1 to 11 upwards." No other number is given (machine, claim RefusalNumbers).
+-- "Order of checks: 12 first, then 1 to 11 upwards.", and 15 "after 7 and before 8". No other number is given (machine,
+-- claim RefusalNumbers).
 abbrev pub stepNumbers : List ℕ
-stepNumbers = 12 ∷ 1 ∷ 2 ∷ 3 ∷ 4 ∷ 5 ∷ 6 ∷ 7 ∷ 8 ∷ 9 ∷ 10 ∷ 11 ∷ []
+stepNumbers = 12 ∷ 1 ∷ 2 ∷ 3 ∷ 4 ∷ 5 ∷ 6 ∷ 7 ∷ 15 ∷ 8 ∷ 9 ∷ 10 ∷ 11 ∷ []

@@ -9,7 +9,7 @@ ghost use Rattle.state.specs.Stands.{site};
 ghost use Rattle.access.specs.Lending.{lending};
 ghost use Rattle.access.specs.Answer.{access};
 ghost use Rattle.instructions.specs.declared.Target.the-variants.{TheArea, Owner, Structure, Import};
-ghost use Rattle.refusals.specs.Refusals.{bListed, missing, entitled, present, absent, earlyChecks};
+ghost use Rattle.refusals.specs.Refusals.{bListed, missing, entitled, present, absent, ownImport, earlyChecks};
 ghost use Rattle.refusals.specs.Parts.{rowsOf, resultChecks};
 use access::Answer;
 use instructions::Lookup;
@@ -84,6 +84,20 @@ fn is_absent(v: Seen, target: Target) -> bool
     }
 }
 
+// Would the area import an object that it defines?
+fn is_own_import(v: Seen, target: Target) -> bool
+    ensures { λ r. ⌜ r ≡ ownImport v target ⌝ }
+{
+    match target {
+        Target::TheArea => false,
+        Target::Owner => false,
+        Target::Definition => false,
+        Target::Structure => false,
+        Target::Import => v.defined,
+        Target::Export => false,
+    }
+}
+
 // The first of the numbers whose condition is met, 0 if none is.
 fn first_of<'a>(numbers: &'a [u8], met: &'a [bool]) -> u8
     requires { ⌜ length (now met) ≤ length (now numbers) ⌝ }
@@ -98,7 +112,7 @@ fn first_of<'a>(numbers: &'a [u8], met: &'a [bool]) -> u8
 }
 
 // The numbers of the early checks, in their order.
-const EARLY: [u8; 5] = [3, 4, 5, 6, 7];
+const EARLY: [u8; 6] = [3, 4, 5, 6, 7, 15];
 
 // The refusal by an early check, 0 if none is met.
 pub fn early_refusal(v: Seen, rule: Rule) -> u8
@@ -114,6 +128,7 @@ pub fn early_refusal(v: Seen, rule: Rule) -> u8
         !is_entitled(v, ownership),
         rule.adds & is_present(v, target),
         !rule.adds & is_absent(v, target),
+        rule.adds & is_own_import(v, target),
     ];
     first_of(&numbers, &met)
 }

@@ -2,19 +2,15 @@
 -- Assumes nothing.
 use Prim.Native.Nat.{ℕ, zero, suc, _+_, _*_, _/_, _≤_, _<_}
 use mathlib.Core.Path.{_≡_, sym, ap, subst, _∙_}
-use mathlib.Core.Bool.{true, not}
 use mathlib.Core.List.{List, [], _∷_, _++_}
 use native.Mathlib.Nat.{mul-le-mul-right}
 use native.Mathlib.Omega.{arith}
 use lib.Dec.{T}
 use lib.ListN.{length, getD, length-append}
 use Rattle.state.specs.Site.{Kind, user, area, object, owner, definition, structure, import, export, limit, firstKind, related}
-use Rattle.state.specs.Walk.{somePair}
 use Rattle.state.specs.Site.{Site}
-use Rattle.state.proofs.Bools.{is-true}
-use Rattle.state.proofs.Laws.{some-pair}
 use Rattle.soundness.specs.Sound.{Sound}
-use Rattle.soundness.proofs.Laws.{consistent-decided, valid-decided}
+use Rattle.soundness.proofs.Laws.{consistent-decided, valid-decided, no-own-import-decided}
 use Rattle.soundness.proofs.Names.{sound-lists, same-by-names}
 use Rattle.pair_tables.specs.Pairs.{hasPair, tableOf}
 use Rattle.pair_tables.proofs.Laws.{pairs-are-bytes, table-whole, table-fits, table-ascends, table-holds, table-count, table-count-once}
@@ -25,7 +21,7 @@ use Rattle.site_file.specs.Reading.{stateIn}
 use Rattle.site_encoding.specs.Encode.{Lawful, contentOf, bodyOf, countsOf, offsetsFrom, fieldBytes, fieldsOf, encode}
 use Rattle.site_encoding.proofs.Fields.{twice, field-written}
 use Rattle.site_encoding.proofs.Placed.{Stated, all-written, all-placed}
-use Rattle.site_file.proofs.Held.{derived, shaped, in-table, derived-lists, not-twice}
+use Rattle.site_file.proofs.Held.{derived, shaped, in-table, derived-lists, some-owner, not-twice}
 use Rattle.site_file.proofs.Checked.{Checked}
 
 -- every number of the list has 16 bits
@@ -194,12 +190,6 @@ module _ (s : Site) (l : List ℕ) (h : Sound s) (law : Lawful s l) where
         same-by-names (stateIn file) s (shaped file) (h .shaped) (derived-lists (stateIn file) (derived file) (shaped file)) (sound-lists s h)
         (λ r i j hi hj. in-table file r (in-range (pairsOf r)) i j ∙ ap (λ (t : List ℕ). hasPair t i j) (written (pairsOf r)) ∙ table-holds (limit (firstKind r)) (related s r) i j hi hj)
 
-    some-owner : T (somePair (s .owners) (λ u a. true))
-    some-owner =
-        let a = h .some-area in
-        let u = h .acceptable .areas (a .0) (a .1) in
-        some-pair (s .owners) (λ u a. true) .1 (u .0, a .0, u .1, tt)
-
     pub passes : Checked file
     passes =
         record {
@@ -210,9 +200,10 @@ module _ (s : Site) (l : List ℕ) (h : Sound s) (law : Lawful s l) where
           placed = all-placed file s l tables (fieldBytes (fieldsOf s l)) e stated;
           in-range = in-range;
           ascends = λ c. subst (λ (t : List ℕ). T (contentAscends c t)) (sym (written c)) (ascends c);
-          owned = rw held (ap not (is-true (somePair (s .owners) (λ u a. true)) some-owner));
+          owned = rw held (some-owner s (h .acceptable) (h .some-area));
           named = rw held (consistent-decided s .1 (h .consistent));
           labelled = rw (held, written labels) (law .listed);
           defined-once = rw held (not-twice s (h .acceptable .objects) (λ o a p. h .consistent definition o a p .first));
           valid = rw held (valid-decided s .1 (h .valid));
+          borrowed = rw held (no-own-import-decided s .1 (h .no-own-import));
         }

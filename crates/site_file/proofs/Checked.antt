@@ -3,25 +3,27 @@
 --     state-sound, sized           what follows of the state and of the tables
 -- Assumes nothing.
 use Prim.Native.Nat.{ℕ, _≤_}
-use mathlib.Core.Path.{_≡_, refl, ap, _∙_}
-use mathlib.Core.Bool.{Bool, false, _||_, not}
-use mathlib.Core.List.{List}
+use mathlib.Core.Path.{_≡_, refl, ap, ap₂, _∙_}
+use mathlib.Core.Bool.{Bool, false, _||_, not, cond}
+use mathlib.Core.List.{List, _++_}
 use borrow.Author.Tests.{le-ltb, eq-eqb}
 use lib.Dec.{T, eqb, ltb, eqb→eq, nltb→le}
 use lib.ListN.{length}
-use Rattle.state.proofs.Bools.{is-true, fails, so-not, so, neither}
-use Rattle.state.proofs.Checks.{passed, none-met, none-met-at}
-use Rattle.state.specs.Checks.{metAt}
+use Rattle.state.proofs.Bools.{or-right, is-true, fails, so-not, so, neither}
+use Rattle.state.proofs.Checks.{met, passed, none-met, none-met-at, first-of-two}
+use Rattle.state.specs.Checks.{firstMet, metAt}
 use Rattle.soundness.specs.Sound.{Sound}
-use Rattle.soundness.specs.Tests.{isConsistent, isValid}
+use Rattle.soundness.specs.Tests.{isConsistent, isValid, noOwnImport}
+use Rattle.soundness.proofs.Laws.{consistent-decided, no-own-import-decided}
+use Rattle.state.specs.Site.{Site, definition}
 use Rattle.label_tables.specs.Labels.{labelsListed}
 use Rattle.site_format.specs.Format.{headerSize, Content, labels, layoutOf, tables, field, countIn, sizeIn, part, contentFits, contentAscends}
 use Rattle.site_format.proofs.Tables.{test-of, by-test}
 use Rattle.site_header.proofs.Laws.{part-size}
-use Rattle.site_header.specs.Header.{countsFit, placedFrom}
+use Rattle.site_header.specs.Header.{countsFit, placedFrom, headerChecks}
 use Rattle.site_file.specs.Claims
-use Rattle.site_file.specs.Reading.{tablesFit, tablesAscend, stateIn, noOwner, definedTwice, fileChecks, fileRefusal, readOf}
-use Rattle.site_file.proofs.Held.{derived, shaped, sound-by}
+use Rattle.site_file.specs.Reading.{tablesFit, tablesAscend, stateIn, noOwner, definedTwice, tableChecks, stateChecks, fileChecks, fileRefusal, readOf}
+use Rattle.site_file.proofs.Held.{derived, shaped, sound-by, some-owner, not-twice}
 
 -- ---- what the checks say
 pub record Checked (file : List ℕ) : Type 0 where
@@ -37,6 +39,7 @@ pub record Checked (file : List ℕ) : Type 0 where
   pub labelled : T (labelsListed (stateIn file .areas) (part file labels))
   pub defined-once : definedTwice (stateIn file) ≡ false
   pub valid : T (isValid (stateIn file))
+  pub borrowed : T (noOwnImport (stateIn file))
 
 -- 28 is not met: none of its parts is
 abbrev Passed28 : (none unnamed unlisted twice : Bool) → Type 0
@@ -51,6 +54,9 @@ parts none unnamed unlisted twice e =
 
 joined : (none unnamed unlisted twice : Bool) → Passed28 none unnamed unlisted twice → (none || (unnamed || unlisted) || twice) ≡ false
 joined none unnamed unlisted twice s = rw (s .0, s .1, s .2, s .3) refl
+
+hold : (a : Bool) → T a → not a ≡ false
+hold a t = ap not (is-true a t)
 
 not-above : (m n : ℕ) → n ≤ m → T (not (ltb m n))
 not-above m n h = rw (le-ltb m n h) tt
@@ -73,7 +79,8 @@ checked file e =
       named = so (isConsistent (stateIn file)) (q .1);
       labelled = so (labelsListed (stateIn file .areas) (part file labels)) (q .2);
       defined-once = q .3;
-      valid = so (isValid (stateIn file)) (p 29);
+      valid = so (isValid (stateIn file)) (r .0);
+      borrowed = so (noOwnImport (stateIn file)) (r .1);
     }
   where
     p : (n : ℕ) → metAt n (fileChecks file) ≡ false
@@ -81,6 +88,9 @@ checked file e =
 
     q : Passed28 (noOwner (stateIn file)) (not (isConsistent (stateIn file))) (not (labelsListed (stateIn file .areas) (part file labels))) (definedTwice (stateIn file))
     q = parts (noOwner (stateIn file)) (not (isConsistent (stateIn file))) (not (labelsListed (stateIn file .areas) (part file labels))) (definedTwice (stateIn file)) (p 28)
+
+    r : (not (isValid (stateIn file)) ≡ false) × (not (noOwnImport (stateIn file)) ≡ false)
+    r = neither (not (isValid (stateIn file))) (not (noOwnImport (stateIn file))) (p 29)
 
 pub accepted : (file : List ℕ) → Checked file → fileRefusal file ≡ 0
 unfolding fileRefusal
@@ -93,16 +103,34 @@ accepted file k =
     ∙ passed _ _ (hold (tablesFit file) (by-test (λ x. contentFits x (part file x)) tables (k .in-range)))
     ∙ passed _ _ (hold (tablesAscend file) (by-test (λ x. contentAscends x (part file x)) tables (k .ascends)))
     ∙ passed _ _ (joined (noOwner (stateIn file)) (not (isConsistent (stateIn file))) (not (labelsListed (stateIn file .areas) (part file labels))) (definedTwice (stateIn file)) (k .owned, hold (isConsistent (stateIn file)) (k .named), hold (labelsListed (stateIn file .areas) (part file labels)) (k .labelled), k .defined-once))
-    ∙ passed _ _ (hold (isValid (stateIn file)) (k .valid))
+    ∙ passed _ _ (ap₂ _||_ (hold (isValid (stateIn file)) (k .valid)) (hold (noOwnImport (stateIn file)) (k .borrowed)))
     ∙ none-met
+
+-- an import by the area that defines the object, with nothing wrong before it
+pub own-import-is-29 : Claims.OwnImportIs29
+unfolding fileRefusal
+own-import-is-29 file k o a p d =
+    first-of-two (headerChecks file ++ tableChecks file) (stateChecks s l) tt
+    ∙ ap (λ (n : ℕ). cond (eqb n 0) (firstMet (stateChecks s l)) n) (k .no-refusal)
+    ∙ passed _ _ (joined (noOwner s) (not (isConsistent s)) (not (labelsListed (s .areas) l)) (definedTwice s) (
+      some-owner s (k .acceptable) (k .some-area),
+      hold (isConsistent s) (consistent-decided s .1 (k .consistent)),
+      hold (labelsListed (s .areas) l) (k .labelled),
+      not-twice s (k .acceptable .objects) (λ o a p. k .consistent definition o a p .first),
+    ))
+    ∙ met _ _ (is-true (not (isValid s) || not (noOwnImport s))
+    (or-right (not (isValid s)) (not (noOwnImport s)) (so-not (noOwnImport s) (λ t. no-own-import-decided s .0 t o a p d))))
   where
-    hold : (a : Bool) → T a → not a ≡ false
-    hold a t = ap not (is-true a t)
+    s : Site
+    s = stateIn file
+
+    l : List ℕ
+    l = part file labels
 
 -- The state of a file that passes each check is sound, and each of its tables has the bytes that its count says.
 module _ (file : List ℕ) (k : Checked file) where
   pub state-sound : Sound (stateIn file)
-  state-sound = sound-by (stateIn file) (derived file) (shaped file) (k .owned) (k .named) (k .defined-once) (k .valid)
+  state-sound = sound-by (stateIn file) (derived file) (shaped file) (k .owned) (k .named) (k .defined-once) (k .valid) (k .borrowed)
 
   pub sized : (c : Content) → length (part file c) ≡ sizeIn file c
   sized = part-size file (k .placed)

@@ -12,13 +12,13 @@ use Rattle.state.specs.Cells.{Pairs, width, member, pair}
 use Rattle.state.specs.Site.{Kind, user, area, object, limit, listed, members, Relation, owner, definition, structure, import, export, firstKind, cells, related, empty, Shaped}
 use Rattle.state.specs.Walk.{somePair, hasFirst, hasSecond}
 use Rattle.state.specs.Site.{Site}
-use Rattle.state.proofs.Bools.{and-both, and-left, and-right, is-false, fails, not-so, so}
+use Rattle.state.proofs.Bools.{and-both, and-left, and-right, is-true, is-false, fails, not-so, so}
 use Rattle.state.proofs.Laws.{some-pair, has-first, has-second, related-inside, empty-related, empty-shaped}
 use Rattle.rows.specs.Rows.{firsts, seconds}
 use Rattle.rows.proofs.Laws.{firsts-length, firsts-reads, seconds-length, seconds-reads}
-use Rattle.soundness.specs.Sound.{Consistent, DefinedOnce, Acceptable, Sound}
-use Rattle.soundness.specs.Tests.{isConsistent, isValid}
-use Rattle.soundness.proofs.Laws.{consistent-decided, valid-decided}
+use Rattle.soundness.specs.Sound.{Consistent, DefinedOnce, Acceptable, SomeArea, Sound}
+use Rattle.soundness.specs.Tests.{isConsistent, isValid, noOwnImport}
+use Rattle.soundness.proofs.Laws.{consistent-decided, valid-decided, no-own-import-decided}
 use Rattle.soundness.proofs.Names.{ListsNamed}
 use Rattle.pair_tables.specs.Pairs.{pairsFit, hasPair}
 use Rattle.site_format.specs.Format.{pairsOf, part}
@@ -111,14 +111,15 @@ module _ (s : Site) (d : Derived s) (shape : Shaped s) where
   pub acceptable-by : definedTwice s ≡ false → Acceptable s
   acceptable-by once = record { users = λ u h. derived-lists s d shape user u .0 h; areas = λ a h. derived-lists s d shape area a .0 h; objects = defined-once once }
 
-  pub sound-by : noOwner s ≡ false → T (isConsistent s) → definedTwice s ≡ false → T (isValid s) → Sound s
-  sound-by owned named once valid =
+  pub sound-by : noOwner s ≡ false → T (isConsistent s) → definedTwice s ≡ false → T (isValid s) → T (noOwnImport s) → Sound s
+  sound-by owned named once valid borrowed =
       record {
         shaped = shape;
         consistent = consistent;
         acceptable = acceptable-by once;
         some-area = (pair .1, consistent owner (pair .0) (pair .1) (pair .2) .second);
         valid = valid-decided s .0 valid;
+        no-own-import = no-own-import-decided s .0 borrowed;
       }
     where
       consistent : Consistent s
@@ -126,6 +127,12 @@ module _ (s : Site) (d : Derived s) (shape : Shaped s) where
 
       pair : (u : ℕ) × (a : ℕ) × T (related s owner u a) × T true
       pair = some-pair (s .owners) (λ u a. true) .0 (so (somePair (s .owners) (λ u a. true)) owned)
+
+-- where an area is listed, and each listed area has an owner, there is an owner pair
+pub some-owner : (s : Site) → Acceptable s → SomeArea s → noOwner s ≡ false
+some-owner s acceptable some =
+    let u = acceptable .areas (some .0) (some .1) in
+    ap not (is-true (somePair (s .owners) (λ u a. true)) (some-pair (s .owners) (λ u a. true) .1 (u .0, some .0, u .1, tt)))
 
 -- in an acceptable state whose pairs name listed objects, none is defined twice
 pub not-twice : (s : Site) → ((o : ℕ) → T (listed s object o) → DefinedOnce s o) → ((o a : ℕ) → T (related s definition o a) → T (listed s object o)) → definedTwice s ≡ false

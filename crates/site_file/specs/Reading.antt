@@ -1,4 +1,5 @@
--- The refusals of a site file in the paper's order, and what an accepted file holds (document 01, 'The site file').
+-- The refusals of a site file in the paper's order, and what an accepted file holds (document 01, 'The site file'; a
+-- part of 29 is of document 02, point 4).
 use Prim.Native.Nat.{ℕ}
 use mathlib.Core.Bool.{Bool, true, _&&_, _||_, not, cond}
 use mathlib.Core.List.{List, [], _∷_, _++_}
@@ -8,7 +9,7 @@ use Rattle.state.specs.Cells.{Pairs}
 use Rattle.state.specs.Site.{Relation, founding, Verdict, verdict}
 use Rattle.state.specs.Walk.{somePair}
 use Rattle.state.specs.Site.{Site}
-use Rattle.soundness.specs.Tests.{isConsistent, isValid}
+use Rattle.soundness.specs.Tests.{isConsistent, isValid, noOwnImport}
 use Rattle.label_tables.specs.Labels.{labelsListed}
 use Rattle.site_format.specs.Format.{eachTable, pairsOf, labels, tables, part, contentFits, contentAscends}
 use Rattle.site_header.specs.Header.{headerChecks}
@@ -50,9 +51,12 @@ abbrev pub tableChecks : (file : List ℕ) → List Check
 tableChecks file = (26 when not (tablesFit file)) ∷ (27 when not (tablesAscend file)) ∷ []
 
 -- 28 and 29, of the state that the file holds, and of its labels. 29: "an import or export pair whose area lacks
--- access"
+-- access"; and of an import by the area that defines the object: "A file with one gets 29." (document 02, point 4)
 abbrev pub stateChecks : Site → (block : List ℕ) → List Check
-stateChecks s l = (28 when noOwner s || namesUnlisted s l || definedTwice s) ∷ (29 when not (isValid s)) ∷ []
+stateChecks s l =
+    (28 when noOwner s || namesUnlisted s l || definedTwice s)
+    ∷ (29 when not (isValid s) || not (noOwnImport s))
+    ∷ []
 
 -- 21 to 25 (site_header, Header), then these
 abbrev pub fileChecks : (file : List ℕ) → List Check

@@ -65,6 +65,9 @@ fn state_refusal(s: State, file: &[u8]) -> u8
     if !validity::is_valid(s) {
         return 29;
     }
+    if !inspection::has_no_own_import(s) {
+        return 29;
+    }
     0
 }
 

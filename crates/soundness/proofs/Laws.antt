@@ -3,19 +3,19 @@
 use Prim.Native.Nat.{ℕ}
 use mathlib.Core.Path.{_≡_, refl, sym, subst}
 use mathlib.Core.Logic.{_↔_}
-use mathlib.Core.Bool.{Bool, true, _&&_}
+use mathlib.Core.Bool.{Bool, true, _&&_, not}
 use native.Mathlib.Omega.{arith}
 use lib.Dec.{T, eqb}
 use Rattle.state.specs.Walk.{eachPair, hasFirst, hasSecond}
-use Rattle.state.specs.Site.{user, area, Relation, owner, definition, structure, import, export, members, cells, firstKind, listed, related, owns, empty, founding}
+use Rattle.state.specs.Site.{user, area, Relation, owner, definition, structure, import, export, members, cells, firstKind, listed, related, owns, defines, empty, founding}
 use Rattle.state.specs.Site.{Site}
-use Rattle.state.proofs.Bools.{and-both, and-left, and-right, is-false, fails}
+use Rattle.state.proofs.Bools.{and-both, and-left, and-right, is-false, fails, not-so, so-not}
 use Rattle.state.proofs.Laws.{some-member, each-member, each-pair, has-first, has-second, founding-listed, founding-owner, founding-no-pair, founding-shaped, empty-related, empty-shaped}
 use Rattle.access.specs.Lending.{lending}
 use Rattle.access.specs.Answer.{access}
 use Rattle.soundness.specs.Sound.{Named, Consistent}
 use Rattle.soundness.specs.Tests.{named, isConsistent, allOwn, allOwned, once, allDefined, isAcceptable, someListed}
-use Rattle.soundness.specs.Tests.{isValid, isSound}
+use Rattle.soundness.specs.Tests.{isWellFormed, isValid, disjoint, noOwnImport, isSound}
 use Rattle.soundness.specs.Claims
 use Rattle.soundness.specs.Laws
 use Rattle.soundness.proofs.Tests.{named-decided, once-decided}
@@ -31,6 +31,13 @@ valid-decided s =
     let a = eachPair (s .imports) fits in
     let b = eachPair (s .exports) fits in
     (λ t. record { imported = im .0 (and-left a b t); exported = ex .0 (and-right a b t) }, λ v. and-both a b (im .1 (v .imported)) (ex .1 (v .exported)))
+
+-- ---- no own import
+pub no-own-import-decided : Claims.NoOwnImportDecided
+unfolding disjoint
+no-own-import-decided s =
+    let e = each-pair (s .imports) (λ o a. not (defines s o a)) in
+    (λ t o a p. not-so (defines s o a) (e .0 t o a p), λ f. e .1 (λ o a p. so-not (defines s o a) (f o a p)))
 
 -- ---- consistent
 -- what the pairs of one relation name is listed
@@ -118,18 +125,22 @@ pub sound-decided : Claims.SoundDecided
 unfolding isSound
 sound-decided s shaped = (
   λ t.
-      let three = and-left abc d t in
+      let four = and-left abcd e t in
+      let three = and-left abc d four in
       let two = and-left ab c three in
       record {
         shaped = shaped;
         consistent = consistent-decided s .0 (and-left a b two);
         acceptable = acceptable-decided s .0 (and-right a b two);
         some-area = some-decided (s .areas) .0 (and-right ab c three);
-        valid = valid-decided s .0 (and-right abc d t);
+        valid = valid-decided s .0 (and-right abc d four);
+        no-own-import = no-own-import-decided s .0 (and-right abcd e t);
       },
-  λ q. and-both abc d
+  λ q. and-both abcd e
+      (and-both abc d
       (and-both ab c (and-both a b (consistent-decided s .1 (q .consistent)) (acceptable-decided s .1 (q .acceptable))) (some-decided (s .areas) .1 (q .some-area)))
-      (valid-decided s .1 (q .valid)),
+      (valid-decided s .1 (q .valid)))
+      (no-own-import-decided s .1 (q .no-own-import)),
 )
   where
     a : Bool
@@ -144,11 +155,28 @@ sound-decided s shaped = (
     d : Bool
     d = isValid s
 
+    e : Bool
+    e = noOwnImport s
+
     ab : Bool
     ab = a && b
 
     abc : Bool
     abc = ab && c
+
+    abcd : Bool
+    abcd = abc && d
+
+-- ---- who imports does not define
+pub own-import-unsound : Claims.OwnImportUnsound
+unfolding isSound
+own-import-unsound s o a p d =
+    is-false (isSound s) (λ t. no-own-import-decided s .0 (and-right (isWellFormed s && isValid s) (noOwnImport s) t) o a p d)
+
+pub lender-is-another : Claims.LenderIsAnother
+lender-is-another s h o a p =
+    let d = h .acceptable .objects o (h .consistent import o a p .first) in
+    (d .place, d .defined, λ e. h .no-own-import o a p (rw e at (d .defined)))
 
 -- ---- the founding state
 -- two names of relations are not the same: `cc` makes 0 ≡ 1 of an equation between them
@@ -189,6 +217,7 @@ founding-sound =
         imported = λ o a t. absurd (not-owner import (λ e. not-the-same (cc)) o a t);
         exported = λ o a t. absurd (not-owner export (λ e. not-the-same (cc)) o a t);
       };
+      no-own-import = λ o a t d. not-owner import (λ e. not-the-same (cc)) o a t;
     }
 
 -- an area would have an owner

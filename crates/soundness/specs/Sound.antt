@@ -1,7 +1,8 @@
 -- "A state is sound when it is consistent (whatever a pair names is listed), acceptable (every listed user owns an
 -- area, every listed area has an owner, every listed object is defined in exactly one area), has at least one area, and
 -- is valid: for each import or export pair the area has access to the object." (document 01, 'The state'; 001, section
--- 4.2). Each part is a named fact.
+-- 4.2). "From now on no area may import an object that it defines, and a state with such an import is unsound."
+-- (document 02, point 4). Each part is a named fact.
 use Prim.Native.Nat.{ℕ}
 use mathlib.Core.Path.{_≡_}
 use lib.Dec.{T}
@@ -42,6 +43,11 @@ pub record Valid (s : Site) : Type 0 where
   pub imported : (o a : ℕ) → T (imports s o a) → T (access (lending s o) a)
   pub exported : (o a : ℕ) → T (exports s o a) → T (access (lending s o) a)
 
+-- "no area may import an object that it defines". It may export it; and document 01's "An import by the defining area
+-- itself is therefore valid." holds of Valid still, and no longer of Sound.
+abbrev pub NoOwnImport : Site → Type 0
+NoOwnImport s = (o a : ℕ) → T (imports s o a) → T (defines s o a) → ⊥
+
 -- Sound. `shaped` is what the type of the record says in the code. "Each state has one record" needs no part of its
 -- own: a record holds its lists and relations and nothing else (state, claim OneRecord), and in a sound one the
 -- relations fix the lists (Claims, RecordOfRelations).
@@ -51,3 +57,4 @@ pub record Sound (s : Site) : Type 0 where
   pub acceptable : Acceptable s
   pub some-area : SomeArea s
   pub valid : Valid s
+  pub no-own-import : NoOwnImport s

@@ -3,7 +3,7 @@
 use Prim.Native.Nat.{ℕ}
 use mathlib.Core.Bool.{Bool, true, _&&_, _||_, not}
 use lib.Dec.{eqb}
-use Rattle.state.specs.Cells.{Members, Pairs, member}
+use Rattle.state.specs.Cells.{Members, Pairs, member, pair}
 use Rattle.state.specs.Walk.{someMember, eachMember, somePair, eachPair, hasFirst, hasSecond}
 use Rattle.state.specs.Site.{Site}
 use Rattle.access.specs.Lending.{lending}
@@ -45,7 +45,7 @@ isAcceptable s =
 unfoldable pub someListed : Members → Bool
 someListed set = someMember set (λ i. true)
 
--- sound but for validity
+-- consistent, acceptable, with at least one area
 abbrev pub isWellFormed : Site → Bool
 isWellFormed s = isConsistent s && isAcceptable s && someListed (s .areas)
 
@@ -54,5 +54,13 @@ unfoldable pub isValid : Site → Bool
 isValid s =
     eachPair (s .imports) (λ o a. access (lending s o) a) && eachPair (s .exports) (λ o a. access (lending s o) a)
 
+-- no pair is in both relations
+unfoldable pub disjoint : (these those : Pairs) → Bool
+disjoint these those = eachPair these (λ i j. not (pair those i j))
+
+-- "no area may import an object that it defines"
+abbrev pub noOwnImport : Site → Bool
+noOwnImport s = disjoint (s .imports) (s .definitions)
+
 unfoldable pub isSound : Site → Bool
-isSound s = isWellFormed s && isValid s
+isSound s = isWellFormed s && isValid s && noOwnImport s

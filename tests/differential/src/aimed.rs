@@ -2,7 +2,7 @@
 
 use crate::borders::{given, is_small};
 use crate::chains::{entries_at, Lengths, MOST_STEPS};
-use crate::numbers::{firsts_with, members, seconds_with};
+use crate::numbers::{firsts_with, members, seconds_with, some};
 use chance::Chance;
 use reference::State;
 
@@ -87,8 +87,4 @@ fn shortcut(state: &State, object: u8, owner: u8, chance: &mut Chance) -> Option
         }
     }
     some(&pairs, chance)
-}
-
-fn some<T: Copy>(values: &[T], chance: &mut Chance) -> Option<T> {
-    (!values.is_empty()).then(|| chance.pick(values))
 }

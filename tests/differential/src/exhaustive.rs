@@ -1,8 +1,10 @@
 //! Every sound state over users 0 and 1, areas 0 and 1 and object 0, with every instruction and access question over
-//! those numbers, the first number beyond them and the first beyond the limits; questions over those plus 256 too.
+//! those numbers, the first number beyond them and the first beyond the limits; questions over those plus 256 too. And
+//! every such state with an own import besides.
 
 use crate::case::Case;
 use crate::library;
+use crate::numbers::STEP_ANSWERS;
 use crate::seen::Seen;
 use crate::shards::Plan;
 use crate::site::Site;
@@ -27,17 +29,37 @@ pub fn run(plan: &Plan) -> (String, Seen) {
             every_question(site, seen);
         }
     });
+    let (about_own_imports, own) = with_own_imports(plan, &sites);
     let line = format!(
         "of {} records {} sound by the library, {} by the reference; \
-         {} steps, answers 0 to 11: {:?}; {} access questions",
+         {} steps, answers 0 to 7, 15, 8 to 11: {:?}; {} access questions; {about_own_imports}",
         1 << PLACES,
         accepted.len(),
         sites.len(),
         asked.total("step"),
-        asked.each("step", 0..=11),
+        asked.each("step", STEP_ANSWERS),
         asked.total("access"),
     );
     seen.add(asked);
+    seen.add(own);
+    seen.require("step", STEP_ANSWERS, 500);
+    (line, seen)
+}
+
+/// Each of the sites whose object is defined, with an own import besides: all that is asked of it is refused as 12.
+fn with_own_imports(plan: &Plan, sites: &[Site]) -> (String, Seen) {
+    let sites: Vec<Site> = sites.iter().filter_map(with_own_import).collect();
+    let mut seen = plan.run("own imports", |shard, _, seen| {
+        let of_shard = sites.iter().skip(shard).step_by(plan.shards());
+        of_shard.for_each(|site| own_import(site, seen));
+    });
+    let (steps, questions) = (seen.total("step"), seen.total("access"));
+    let refused = seen.times("step", 12) + seen.times("access", 268);
+    seen.demand(refused == steps + questions, "an own import is refused as 12");
+    let line = format!(
+        "{} with an own import besides, {steps} steps and {questions} questions, {refused} refused as 12",
+        sites.len()
+    );
     (line, seen)
 }
 
@@ -100,6 +122,27 @@ fn every_instruction(site: &Site, seen: &mut Seen) {
                 }
             }
         }
+    }
+}
+
+/// The state with an import by the area that defines the object, if one does.
+fn with_own_import(site: &Site) -> Option<Site> {
+    let mut state = site.state.clone()?;
+    state.imports.insert(*state.definitions.first()?);
+    Some(Site::of_state(state))
+}
+
+/// Every instruction and question over the numbers that can be listed.
+fn own_import(site: &Site, seen: &mut Seen) {
+    for code in 1..=12 {
+        for (activator, a) in AREA_PAIRS {
+            for b in [0, 1] {
+                seen.compare(&Case::step(site, [code, activator, a, b]));
+            }
+        }
+    }
+    for area in [0, 1] {
+        seen.compare(&Case::access(site, area, 0));
     }
 }
 

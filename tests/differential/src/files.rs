@@ -4,13 +4,14 @@ use crate::borders::{entry_lengths, is_one_step_too_far, is_small};
 use crate::byte_damage::BYTE_DAMAGES;
 use crate::case::Case;
 use crate::chains::MOST_STEPS;
-use crate::draft::{random_labels, random_text, Draft};
-use crate::numbers::widened;
+use crate::draft::{random_labels, random_text, Draft, IMPORTS};
+use crate::numbers::{widened, Pairs};
+use crate::own_imports::{has_own, is_only_own};
 use crate::seen::Seen;
 use crate::shards::Plan;
 use crate::site::OTHER_LENGTHS;
 use crate::states::{sound_state, Shape};
-use crate::table_damage::{entry_too_far, TABLE_DAMAGES};
+use crate::table_damage::{entry_too_far, own_import, TABLE_DAMAGES};
 use chance::Chance;
 use reference::{Labels, State, RECORD_BYTES};
 
@@ -18,9 +19,14 @@ use reference::{Labels, State, RECORD_BYTES};
 const STATES: usize = 1250;
 const FILES: usize = 10;
 
-/// How many of a shard's files are the largest that there is, or nearly; and how many are made for an entry at 9 steps.
+/// How many of a shard's files are the largest that there is, or nearly; how many are made for an entry at 9 steps, and
+/// how many for an own import.
 const LARGEST: usize = 6;
 const TOO_FAR: usize = 150;
+const OWN: usize = 150;
+
+/// With 1,024 owner pairs, 64 definitions, 1,024 structure pairs, 1,984 imports, 2,048 exports and 32 labels.
+const LARGEST_BYTES: usize = 13_340;
 
 pub fn run(plan: &Plan) -> (String, Seen) {
     let mut seen = plan.run("files", |_, chance, seen| {
@@ -32,8 +38,15 @@ pub fn run(plan: &Plan) -> (String, Seen) {
         }
         let (state, labels) = largest(chance);
         (0..LARGEST).for_each(|_| one_file(&state, &labels, chance, seen));
+        about_the_largest(&Draft::new(&state, &labels), chance, seen);
         (0..TOO_FAR).for_each(|_| file_too_far(chance, seen));
+        (0..OWN).for_each(|_| file_with_own_import(chance, seen));
     });
+    require(&mut seen);
+    (line(&seen), seen)
+}
+
+fn require(seen: &mut Seen) {
     seen.require("read", [0], 5000);
     seen.require("read", 21..=29, 200);
     seen.require("read", [31], 200);
@@ -41,20 +54,32 @@ pub fn run(plan: &Plan) -> (String, Seen) {
     seen.require("byte damage", 0..BYTE_DAMAGES.len() as u32, 200);
     seen.require("file with an entry at 8 steps", [0], 1000);
     seen.require("file with an entry too far", [29], 300);
+    seen.require("file with an own import", [29], 500);
+    seen.require("file with an own import", [26, 27, 28], 100);
+    seen.require("labelled but for an own import", [0], 200);
+    seen.require("largest file", [0, 29, 24], 8);
     seen.require("label above 255", [0], 5000);
     seen.require("labelled but for 256 or more", [0], 2000);
-    let line = format!(
+}
+
+fn line(seen: &Seen) -> String {
+    format!(
         "{} files, answers 0, 21 to 29, 31: {:?}; accepted with an entry at 8 steps: {}, with nothing wrong but an \
-         entry at 9 steps: {}; {} labels asked for, {} found, {} for an area above 255",
+         entry at 9 steps: {}, but an own import: {}, with an own import and 26, 27, 28: {:?}; \
+         about the largest, answers 0, 29, 24: {:?}; \
+         {} labels asked for, {} found, {} for an area above 255, {} of areas with one in files with an own import",
         seen.total("read"),
         seen.each("read", [0].into_iter().chain(21..=29).chain([31])),
         seen.times("file with an entry at 8 steps", 0),
         seen.times("file with an entry too far", 29),
+        seen.times("file with an own import", 29),
+        seen.each("file with an own import", [26, 27, 28]),
+        seen.each("largest file", [0, 29, 24]),
         seen.total("label"),
         seen.total("label") - seen.times("label", 0),
         seen.total("label above 255"),
-    );
-    (line, seen)
+        seen.times("labelled but for an own import", 0),
+    )
 }
 
 fn shape(chance: &mut Chance) -> Shape {
@@ -67,22 +92,47 @@ fn shape(chance: &mut Chance) -> Shape {
     }
 }
 
-/// Every pair that a relation can have; only what is defined where is left to choose.
-fn largest(chance: &mut Chance) -> (State, Labels) {
+fn every_pair(firsts: u8) -> Pairs {
     let row = |first: u8| (0..32).map(move |second| (first, second));
-    let pairs = |firsts: u8| (0..firsts).flat_map(row).collect();
-    let state = State {
+    (0..firsts).flat_map(row).collect()
+}
+
+/// Every pair that a relation can have, but for own imports; only what is defined where is left to choose.
+fn largest(chance: &mut Chance) -> (State, Labels) {
+    let mut state = State {
         users: (0..32).collect(),
         areas: (0..32).collect(),
         objects: (0..64).collect(),
-        owners: pairs(32),
+        owners: every_pair(32),
         definitions: (0..64).map(|object| (object, chance.below(32) as u8)).collect(),
-        structure: pairs(32),
-        imports: pairs(64),
-        exports: pairs(64),
+        structure: every_pair(32),
+        imports: every_pair(64),
+        exports: every_pair(64),
     };
+    state.imports.retain(|pair| !state.definitions.contains(pair));
     let labels = (0..32).map(|area| (area, random_text(chance))).collect();
     (state, labels)
+}
+
+/// The largest file; with one own import, with all 64 of them, and with one import more than may be stated.
+fn about_the_largest(largest: &Draft, chance: &mut Chance, seen: &mut Seen) {
+    seen.demand(largest.bytes().len() == LARGEST_BYTES, "the length of the largest file");
+    let (mut one_own, mut every, mut too_many) = (largest.clone(), largest.clone(), largest.clone());
+    own_import(&mut one_own, chance);
+    every.tables[IMPORTS] = every_pair(64)
+        .into_iter()
+        .map(|(object, area)| vec![object, area])
+        .collect();
+    too_many.tables[IMPORTS].resize(2049, vec![63, 31]);
+    for (draft, expected) in [(largest, 0), (&one_own, 29), (&every, 29), (&too_many, 24)] {
+        if let Some(answer) = seen.compare(&Case::read(&draft.bytes(), RECORD_BYTES)) {
+            seen.demand(
+                answer.number == expected,
+                "the answers to the largest file and those about it",
+            );
+            seen.count("largest file", answer.number);
+        }
+    }
 }
 
 fn one_file(state: &State, labels: &Labels, chance: &mut Chance, seen: &mut Seen) {
@@ -104,7 +154,7 @@ fn one_file(state: &State, labels: &Labels, chance: &mut Chance, seen: &mut Seen
     }
     let read = compare_file(&file, labels, chance, seen);
     if let (Some(answer), 0) = (read, byte_damages) {
-        count_about_the_limit(&draft, answer, seen);
+        count_file(&draft.state(), answer, seen);
     }
 }
 
@@ -115,25 +165,54 @@ fn file_too_far(chance: &mut Chance, seen: &mut Seen) {
     let mut draft = Draft::new(&state, &labels);
     entry_too_far(&mut draft, chance);
     if let Some(answer) = compare_file(&draft.bytes(), &labels, chance, seen) {
-        count_about_the_limit(&draft, answer, seen);
+        count_file(&draft.state(), answer, seen);
     }
 }
 
-/// Counts a file that is as drafted: accepted with an entry at 8 steps, or refused for nothing but entries at 9.
-fn count_about_the_limit(draft: &Draft, answer: u32, seen: &mut Seen) {
-    let state = draft.state();
-    if is_small(&state) {
-        return;
+/// A file with an import by the definer; in half of them something else may be wrong.
+fn file_with_own_import(chance: &mut Chance, seen: &mut Seen) {
+    let state = sound_state(shape(chance), chance);
+    let labels = random_labels(&state, chance);
+    let mut draft = Draft::new(&state, &labels);
+    own_import(&mut draft, chance);
+    if chance.once_in(2) {
+        chance.pick(&TABLE_DAMAGES)(&mut draft, chance);
     }
+    let file = draft.bytes();
+    let Some(answer) = compare_file(&file, &labels, chance, seen) else {
+        return;
+    };
+    let state = draft.state();
+    count_file(&state, answer, seen);
+    let would_be_found = answer == 29 && is_only_own(&state);
+    if let (Some(&area), true) = (labels.keys().next(), would_be_found) {
+        if let Some(label) = seen.compare(&Case::label(&file, area.into())) {
+            seen.count("labelled but for an own import", label.number);
+        }
+    }
+}
+
+/// Counts a file that is as drafted for this state.
+fn count_file(state: &State, answer: u32, seen: &mut Seen) {
+    if !is_small(state) {
+        count_about_the_limit(state, answer, seen);
+    }
+    if has_own(state) && (answer != 29 || is_only_own(state)) {
+        seen.count("file with an own import", answer);
+    }
+}
+
+/// Accepted with an entry at 8 steps, or refused for nothing but entries at 9?
+fn count_about_the_limit(state: &State, answer: u32, seen: &mut Seen) {
     let at_8_steps = || {
-        entry_lengths(&state)
+        entry_lengths(state)
             .into_values()
             .any(|steps| steps == Some(MOST_STEPS))
     };
     if answer == 0 && at_8_steps() {
         seen.count("file with an entry at 8 steps", answer);
     }
-    if answer == 29 && is_one_step_too_far(&state) {
+    if answer == 29 && is_one_step_too_far(state) {
         seen.count("file with an entry too far", answer);
     }
 }

@@ -2,6 +2,7 @@
 
 use crate::aimed;
 use crate::numbers::{firsts_with, free, members, pick_or, seconds_with};
+use crate::own_imports;
 use chance::Chance;
 use reference::State;
 
@@ -31,11 +32,12 @@ impl Domain<'_> {
 }
 
 /// An instruction of one of the activators that mostly names what is there, and now and then something else. At times
-/// one for the sake of the limit on steps.
+/// one for the sake of the limit on steps, or of own imports.
 pub fn instruction(state: &State, domain: &Domain, chance: &mut Chance) -> [u8; 4] {
-    let aimed = match chance.once_in(6) {
-        true => aimed::instruction(state, domain.activators, chance),
-        false => None,
+    let aimed = match chance.below(12) {
+        0..2 => aimed::instruction(state, domain.activators, chance),
+        2 => own_imports::instruction(state, domain.activators, chance),
+        _ => None,
     };
     let mut bytes = match aimed {
         Some(bytes) => bytes,
@@ -74,8 +76,13 @@ fn any_number(chance: &mut Chance) -> u8 {
 }
 
 fn fitting(state: &State, domain: &Domain, chance: &mut Chance) -> [u8; 4] {
-    let activator = chance.pick(domain.activators);
     let code = 1 + chance.below(12) as u8;
+    of_code(code, state, domain, chance)
+}
+
+/// An instruction of one of the activators with this code, which mostly names what is there.
+pub fn of_code(code: u8, state: &State, domain: &Domain, chance: &mut Chance) -> [u8; 4] {
+    let activator = chance.pick(domain.activators);
     let (own, areas, objects) = (
         seconds_with(&state.owners, activator),
         members(&state.areas),

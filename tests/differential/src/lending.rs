@@ -7,7 +7,8 @@ use crate::case::Case;
 use crate::chains::Lengths;
 use crate::instructions::{any_bytes, instruction, Domain};
 use crate::library;
-use crate::numbers::{firsts_with, members};
+use crate::numbers::{firsts_with, members, STEP_ANSWERS};
+use crate::own_imports;
 use crate::seen::Seen;
 use crate::shards::Plan;
 use crate::site::Site;
@@ -27,6 +28,9 @@ const LISTS: [(Shape, usize); 6] = [
 
 const LONGEST_LIST: usize = 30;
 
+/// So many refusals as 15 are own imports that were tried again and again.
+const AGAIN_AND_AGAIN: u32 = 5;
+
 pub fn run(plan: &Plan) -> (String, Seen) {
     let mut seen = plan.run("lending", |_, chance, seen| {
         for (shape, lists) in LISTS {
@@ -36,20 +40,23 @@ pub fn run(plan: &Plan) -> (String, Seen) {
     seen.require("silent area", [0], 5000);
     seen.require("silent area with entries", [0], 5000);
     seen.require("changed", [0], 5000);
-    seen.require("instruction", 0..=11, 500);
+    seen.require("instruction", STEP_ANSWERS, 500);
     seen.require("silent at", 7..=9, 500);
     seen.require("silent and moved from", 7..=9, 150);
+    seen.require("own imports again and again", [0], 400);
     let line = format!(
-        "{} lists, {} of them with a change; instructions, answers 0 to 11: {:?}; \
+        "{} lists, {} of them with a change; instructions, answers 0 to 7, 15, 8 to 11: {:?}; \
          areas with no owner among the activators: {}, {} of them with imports or exports; \
-         imports or exports of theirs at 7, 8 steps, and objects at 9: {:?}, at another number after the list: {:?}",
+         imports or exports of theirs at 7, 8 steps, and objects at 9: {:?}, at another number after the list: {:?}; \
+         with a change and {AGAIN_AND_AGAIN} refusals as 15 or more: {}",
         seen.total("list"),
         seen.times("changed", 0),
-        seen.each("instruction", 0..=11),
+        seen.each("instruction", STEP_ANSWERS),
         seen.times("silent area", 0),
         seen.times("silent area with entries", 0),
         seen.each("silent at", 7..=9),
         seen.each("silent and moved from", 7..=9),
+        seen.times("own imports again and again", 0),
     );
     (line, seen)
 }
@@ -119,38 +126,50 @@ fn start(shape: Shape, chance: &mut Chance) -> (State, u8) {
 }
 
 /// A list, perhaps empty, in which no owner of the area activates anything. Most of it fits the state where it stands.
+/// One list in six insists on own imports.
 fn list_without(start: &State, silent: u8, chance: &mut Chance, seen: &mut Seen) -> Vec<[u8; 4]> {
     let owners = firsts_with(&start.owners, silent);
+    let insists = chance.once_in(6);
     let mut list = Vec::new();
     let mut state = start.clone();
+    let mut refused_as_15 = 0;
     for _ in 0..chance.below(LONGEST_LIST + 1) {
-        let bytes = bytes_without(&state, &owners, chance);
+        let mut others = members(&state.users);
+        others.retain(|user| !owners.contains(user));
+        let own_import = match insists && !others.is_empty() && chance.once_in(2) {
+            true => own_imports::instruction(&state, &others, chance),
+            false => None,
+        };
+        let bytes = own_import.unwrap_or_else(|| bytes_without(&state, &owners, &others, chance));
         list.push(bytes);
-        match reference::step(&state, bytes) {
+        let answer = match reference::step(&state, bytes) {
             Ok(next) => {
                 state = next;
-                seen.count("instruction", 0);
+                0
             }
-            Err(refusal) => seen.count("instruction", refusal.into()),
-        }
+            Err(refusal) => refusal.into(),
+        };
+        seen.count("instruction", answer);
+        refused_as_15 += u32::from(answer == 15);
+    }
+    if refused_as_15 >= AGAIN_AND_AGAIN && state != *start {
+        seen.count("own imports again and again", 0);
     }
     list
 }
 
 /// Any four bytes, or an instruction of another user, or one that fits the silent owners in another's name.
-fn bytes_without(state: &State, silent: &[u8], chance: &mut Chance) -> [u8; 4] {
-    let mut others = members(&state.users);
-    others.retain(|user| !silent.contains(user));
+fn bytes_without(state: &State, silent: &[u8], others: &[u8], chance: &mut Chance) -> [u8; 4] {
     let mut bytes = match chance.below(10) {
         0 => any_bytes(chance),
         1..4 => instruction(state, &Domain::whole(silent), chance),
         _ if others.is_empty() => any_bytes(chance),
-        _ => instruction(state, &Domain::whole(&others), chance),
+        _ => instruction(state, &Domain::whole(others), chance),
     };
     if silent.contains(&bytes[1]) || chance.once_in(10) {
         let anyone: Vec<u8> = (0..=255).filter(|user| !silent.contains(user)).collect();
         let any = others.is_empty() || chance.once_in(4);
-        bytes[1] = chance.pick(if any { &anyone } else { &others });
+        bytes[1] = chance.pick(if any { &anyone } else { others });
     }
     bytes
 }
@@ -162,6 +181,14 @@ pub fn run_by_library(site: &Site, list: &[[u8; 4]]) -> Answer {
     for &instruction in list {
         now = library::step(&now.bytes, instruction);
         complaints.push(now.complaint);
+        if now.number == 0 && !library::is_sound(&now.bytes) {
+            complaints.push(format!(
+                "the library accepts {instruction:?} and calls the state after it unsound"
+            ));
+        }
+        if now.number == 0 && own_imports::are_in_record(&now.bytes) {
+            complaints.push(format!("after {instruction:?} an area imports what it defines"));
+        }
     }
     if !library::is_sound(&now.bytes) {
         complaints.push("the library calls the state after the list unsound".to_string());

@@ -1,8 +1,9 @@
 //! Inputs of PanelRights: sessions of lines that fit, and every kind of line that is unreadable.
 
-use crate::borders::count_step;
+use crate::borders;
 use crate::instructions::{instruction, Domain};
 use crate::numbers::members;
+use crate::own_imports;
 use crate::seen::Seen;
 use chance::Chance;
 use reference::State;
@@ -116,7 +117,11 @@ impl Session {
             areas: 7,
             objects: 8,
         };
-        instruction(&self.state, &domain, chance)
+        let mut bytes = instruction(&self.state, &domain, chance);
+        if chance.once_in(12) {
+            bytes[1] = chance.below(6) as u8;
+        }
+        bytes
     }
 
     /// Areas 0 to 11, each in the next, and an object that is lent on from one end up to an area at 9 steps.
@@ -138,12 +143,12 @@ impl Session {
     }
 
     fn add(&mut self, bytes: [u8; 4], seen: &mut Seen) {
-        match reference::step(&self.state, bytes) {
-            Ok(next) => {
-                count_step(&self.state, bytes, 0, seen);
-                self.state = next;
-            }
-            Err(refusal) => count_step(&self.state, bytes, refusal.into(), seen),
+        let next = reference::step(&self.state, bytes);
+        let answer = next.as_ref().err().map_or(0, |&refusal| refusal.into());
+        borders::count_step(&self.state, bytes, answer, seen);
+        own_imports::count_step(&self.state, bytes, answer, seen);
+        if let Ok(next) = next {
+            self.state = next;
         }
         self.add_line(&joined(bytes.map(|number| number.to_string())));
     }

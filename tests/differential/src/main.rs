@@ -24,6 +24,7 @@ mod lending;
 mod library;
 mod lines;
 mod numbers;
+mod own_imports;
 mod program;
 mod random;
 mod seen;

@@ -6,6 +6,9 @@ use std::collections::BTreeSet;
 
 pub type Pairs = BTreeSet<(u8, u8)>;
 
+/// What a sound state answers to an instruction: 0, and the refusals in the order of their checks.
+pub const STEP_ANSWERS: [u32; 13] = [0, 1, 2, 3, 4, 5, 6, 7, 15, 8, 9, 10, 11];
+
 /// The five relations, in the order of the record and of the site file.
 pub fn relations(state: &State) -> [&Pairs; 5] {
     [
@@ -33,6 +36,11 @@ pub fn pick_or(numbers: &[u8], limit: usize, once_in: usize, chance: &mut Chance
         return chance.below(limit) as u8;
     }
     chance.pick(numbers)
+}
+
+/// One of the values, if there are any.
+pub fn some<T: Copy>(values: &[T], chance: &mut Chance) -> Option<T> {
+    (!values.is_empty()).then(|| chance.pick(values))
 }
 
 /// The number as it is, or one above 255: often so far above that it is the same again in 8 or 16 bits.

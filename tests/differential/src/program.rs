@@ -3,6 +3,7 @@
 use crate::answer::Answer;
 use crate::case::Case;
 use crate::lines::{noise, Session, UNREADABLE};
+use crate::own_imports;
 use crate::seen::Seen;
 use crate::shards::Plan;
 use chance::Chance;
@@ -43,11 +44,12 @@ pub fn run(plan: &Plan) -> (String, Seen) {
     seen.require("length", LENGTHS, 3);
     seen.require("import, steps and answer", [800, 910], 20);
     seen.require("export, steps and answer", [800, 910], 20);
+    own_imports::require_steps(&mut seen, 20);
     let times = |(kind, (name, _))| format!("{name} {}", seen.times("unreadable", kind));
     let kinds: Vec<String> = (0..).zip(UNREADABLE).map(times).collect();
     let line = format!(
         "{} inputs, {} lines; unreadable: {}; last lines without byte 10: {}; inputs of {LENGTHS:?} bytes: {:?}; \
-         imports at 8, 9 steps: {:?}, exports: {:?}",
+         imports at 8, 9 steps: {:?}, exports: {:?}; {}",
         seen.total("program"),
         seen.total("line"),
         kinds.join(", "),
@@ -55,6 +57,7 @@ pub fn run(plan: &Plan) -> (String, Seen) {
         seen.each("length", LENGTHS),
         seen.each("import, steps and answer", [800, 910]),
         seen.each("export, steps and answer", [800, 910]),
+        own_imports::steps_text(&seen),
     );
     (line, seen)
 }

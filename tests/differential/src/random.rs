@@ -4,7 +4,8 @@ use crate::aimed;
 use crate::borders;
 use crate::case::Case;
 use crate::instructions::instruction_of_anyone;
-use crate::numbers::{members, widened};
+use crate::numbers::{free, members, seconds_with, some, widened, STEP_ANSWERS};
+use crate::own_imports;
 use crate::seen::Seen;
 use crate::shards::Plan;
 use crate::site::{Site, OTHER_LENGTHS};
@@ -38,12 +39,20 @@ const QUESTIONED: [(Shape, usize); 4] = [
 /// How many listed areas and objects are asked about at the end of a walk.
 const QUESTIONS: usize = 4;
 
-/// How many records a shard has with some places turned, with an entry at 9 steps, and of another length.
+/// How many definitions of a shard go from one area to another.
+const MOVED: usize = 60;
+
+/// How many records a shard has with some places turned, with an entry at 9 steps, with an own import, and of another
+/// length.
 const TURNED: usize = 2000;
 const TOO_FAR: usize = 200;
+const OWN: usize = 60;
 const MISSIZED: usize = 200;
 
 const UNSOUND: u32 = 12;
+
+/// The answers to code 9 by an area that has defined the object before: it is unlisted now, or another area defines it.
+const DEFINER_OF_BEFORE: [u32; 3] = [4, 0, 10];
 
 /// The answers that each code can have, but for 12, 1 and 2.
 const ANSWERS: [(u32, &[u32]); 12] = [
@@ -55,7 +64,7 @@ const ANSWERS: [(u32, &[u32]); 12] = [
     (6, &[0, 3, 4, 5, 7, 11]),
     (7, &[0, 3, 4, 5, 6]),
     (8, &[0, 3, 4, 5, 7, 11]),
-    (9, &[0, 3, 4, 5, 6, 10]),
+    (9, &[0, 3, 4, 5, 6, 15, 10]),
     (10, &[0, 3, 4, 5, 7, 11]),
     (11, &[0, 3, 4, 5, 6, 10]),
     (12, &[0, 3, 4, 5, 7, 11]),
@@ -67,8 +76,10 @@ pub fn run(plan: &Plan) -> (String, Seen) {
             (0..walks).for_each(|_| walk(sound_state(shape, chance), steps, chance, seen));
         }
         (0..AIMED).for_each(|_| aimed_steps(chance, seen));
+        (0..MOVED).for_each(|_| moved_definition(chance, seen));
         (0..TURNED).for_each(|_| turned_record(chance, seen));
         (0..TOO_FAR).for_each(|_| too_far_record(chance, seen));
+        (0..OWN).for_each(|_| own_imports::one_record(chance, seen));
         (0..MISSIZED).for_each(|_| missized_record(chance, seen));
         every_place(chance, seen);
         for (shape, states) in QUESTIONED {
@@ -76,12 +87,17 @@ pub fn run(plan: &Plan) -> (String, Seen) {
         }
     });
     require(&mut seen);
-    let line = format!("{}; {}", answers(&seen), about_the_limit(&seen));
+    let line = format!(
+        "{}; {}; {}",
+        answers(&seen),
+        about_the_limit(&seen),
+        about_own_imports(&seen)
+    );
     (line, seen)
 }
 
 fn require(seen: &mut Seen) {
-    seen.require("step", 0..=12, 500);
+    seen.require("step", STEP_ANSWERS.into_iter().chain([UNSOUND]), 500);
     seen.require("access", (0..=8).chain([255, 258, 260, 268]), 300);
     seen.require("listed but for 256 or more", [258], 500);
     seen.require("question above 255", [258, 268], 500);
@@ -97,14 +113,17 @@ fn require(seen: &mut Seen) {
     seen.require("removal would leave more than 9 steps", [6, 10, 12], 100);
     seen.require("removal would leave one area too far", [6, 10, 12], 100);
     seen.require("one step too far", [12, 268], 300);
+    own_imports::require_steps(seen, 300);
+    own_imports::require_records(seen, 300);
+    seen.require("import by the definer of before", DEFINER_OF_BEFORE, 80);
 }
 
 fn answers(seen: &Seen) -> String {
     format!(
-        "{} steps, answers 0 to 12: {:?}; {} access questions, all there are for {} states, \
+        "{} steps, answers 0 to 7, 15, 8 to 11, 12: {:?}; {} access questions, all there are for {} states, \
          answers 0 to 8: {:?}, no access: {}, refused 2, 4, 12: {:?}; {} with a number above 255",
         seen.total("step"),
-        seen.each("step", 0..=12),
+        seen.each("step", STEP_ANSWERS.into_iter().chain([UNSOUND])),
         seen.total("access"),
         seen.total("questioned states"),
         seen.each("access", 0..=8),
@@ -131,26 +150,63 @@ fn about_the_limit(seen: &Seen) -> String {
     )
 }
 
+fn about_own_imports(seen: &Seen) -> String {
+    format!(
+        "{}; imports by the definer of before, answers 4, 0, 10: {:?}; {}",
+        own_imports::steps_text(seen),
+        seen.each("import by the definer of before", DEFINER_OF_BEFORE),
+        own_imports::records_text(seen),
+    )
+}
+
 /// Steps one after the other, each in the state that the one before it left, and access questions at the end.
 fn walk(start: State, steps: usize, chance: &mut Chance, seen: &mut Seen) {
     let mut site = Site::of_state(start);
     for _ in 0..steps {
         let Some(state) = &site.state else { return };
         let instruction = instruction_of_anyone(state, chance);
-        let Some(answer) = seen.compare(&Case::step(&site, instruction)) else {
+        if step_on(&mut site, instruction, seen).is_none() {
             return;
-        };
-        seen.demand(
-            answer.number != UNSOUND,
-            "every walk goes from one sound state to the next",
-        );
-        seen.count("code and answer", u32::from(instruction[0]) * 100 + answer.number);
-        borders::count_step(state, instruction, answer.number, seen);
-        if answer.number == 0 {
-            site = Site::of_bytes(answer.bytes);
         }
     }
     (0..QUESTIONS).for_each(|_| one_question(&site, chance, seen));
+}
+
+/// One step of a walk, to the state that it leaves. Gives the answer, if both sides give the same.
+fn step_on(site: &mut Site, instruction: [u8; 4], seen: &mut Seen) -> Option<u32> {
+    let answer = seen.compare(&Case::step(site, instruction))?;
+    let state = site.state.as_ref()?;
+    seen.demand(
+        answer.number != UNSOUND,
+        "every walk goes from one sound state to the next",
+    );
+    seen.count("code and answer", u32::from(instruction[0]) * 100 + answer.number);
+    borders::count_step(state, instruction, answer.number, seen);
+    own_imports::count_step(state, instruction, answer.number, seen);
+    if answer.number == 0 {
+        *site = Site::of_bytes(answer.bytes);
+    }
+    Some(answer.number)
+}
+
+/// An object goes from one area of a user to another of his, and at each stage both areas try to import it.
+fn moved_definition(chance: &mut Chance, seen: &mut Seen) {
+    let state = sound_state(chance.pick(&[Shape::Sparse, Shape::Ring]), chance);
+    let user = chance.pick(&members(&state.users));
+    let mut areas = seconds_with(&state.owners, user);
+    let one = areas.swap_remove(chance.below(areas.len()));
+    let Some(other) = some(&areas, chance) else { return };
+    let object = chance.pick(&free(&members(&state.objects), 64));
+    let mut site = Site::of_state(state);
+    for (code, area) in [(7, one), (9, other), (9, one), (10, other), (8, one)] {
+        step_on(&mut site, [code, user, area, object], seen);
+    }
+    for (code, area) in [(9, one), (7, other), (9, other), (11, other), (9, one)] {
+        let answer = step_on(&mut site, [code, user, area, object], seen);
+        if let (9, Some(answer), true) = (code, answer, area == one) {
+            seen.count("import by the definer of before", answer);
+        }
+    }
 }
 
 /// Instructions about the limit on steps, each in the same state.

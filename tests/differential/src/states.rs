@@ -76,9 +76,10 @@ pub fn sound_state(shape: Shape, chance: &mut Chance) -> State {
         };
         state.definitions.insert((object, definer));
         let with_access = lend(&mut state, object, definer, size.lending, chance);
+        let borrowers = &with_access[1..];
         state
             .imports
-            .extend(random_pairs(&[object], &with_access, size.spare, chance));
+            .extend(random_pairs(&[object], borrowers, size.spare, chance));
         state
             .exports
             .extend(random_pairs(&[object], &with_access, size.spare, chance));
@@ -139,7 +140,7 @@ fn either_way((one, other): (u8, u8), chance: &mut Chance) -> (u8, u8) {
 }
 
 /// Lends the object on from its definer, to the nearest areas first and across 8 steps at most. Most areas at 8 steps
-/// export as well, and the areas they lie in get no access by that. Gives the areas with access.
+/// export as well, and the areas they lie in get no access by that. Gives the areas with access, the definer first.
 fn lend(state: &mut State, object: u8, definer: u8, percent: usize, chance: &mut Chance) -> Vec<u8> {
     let mut with_access = vec![definer];
     let mut waiting = VecDeque::from([(definer, 0)]);

@@ -10,7 +10,7 @@ use chance::Chance;
 
 pub type TableDamage = fn(&mut Draft, &mut Chance);
 
-pub const TABLE_DAMAGES: [TableDamage; 25] = [
+pub const TABLE_DAMAGES: [TableDamage; 26] = [
     number_beyond_its_limit,
     entries_swapped,
     neighbours_swapped,
@@ -26,6 +26,7 @@ pub const TABLE_DAMAGES: [TableDamage; 25] = [
     entry_dropped,
     entry_added,
     entry_too_far,
+    own_import,
     areas_vouch,
     label_of_an_unlisted_area,
     label_area,
@@ -200,6 +201,15 @@ pub fn entry_too_far(draft: &mut Draft, chance: &mut Chance) {
         let (code, area) = chance.pick(&entries);
         let table = if code == 9 { IMPORTS } else { EXPORTS };
         draft.insert(table, vec![object, area]);
+    }
+}
+
+/// An import by the definer of an object, if one is defined.
+pub fn own_import(draft: &mut Draft, chance: &mut Chance) {
+    let definitions = &draft.tables[DEFINITIONS];
+    if !definitions.is_empty() {
+        let pair = &definitions[chance.below(definitions.len())];
+        draft.insert_new(IMPORTS, [pair[0], pair[1]]);
     }
 }
 

@@ -1,7 +1,7 @@
 //! States that are mostly unsound, and often by one place only.
 
 use crate::chains::{entries_at, MOST_STEPS};
-use crate::numbers::{members, pick_or, Pairs};
+use crate::numbers::{members, pick_or, some, Pairs};
 use chance::Chance;
 use reference::State;
 use std::collections::BTreeSet;
@@ -30,12 +30,20 @@ pub fn one_step_too_far(state: &State, chance: &mut Chance) -> Option<State> {
     Some(other)
 }
 
+/// Puts in an import by the definer of an object, and gives it as (object, area). None if nothing is defined.
+pub fn add_own_import(state: &mut State, chance: &mut Chance) -> Option<(u8, u8)> {
+    let definitions: Vec<(u8, u8)> = state.definitions.iter().copied().collect();
+    let own = some(&definitions, chance)?;
+    state.imports.insert(own);
+    Some(own)
+}
+
 fn turn(state: &mut State, chance: &mut Chance) {
     let user = pick_or(&members(&state.users), 32, 8, chance);
     let area = pick_or(&members(&state.areas), 32, 8, chance);
     let other_area = pick_or(&members(&state.areas), 32, 8, chance);
     let object = pick_or(&members(&state.objects), 64, 8, chance);
-    match chance.below(12) {
+    match chance.below(13) {
         0 => toggle(&mut state.users, user),
         1 => toggle(&mut state.areas, area),
         2 => toggle(&mut state.objects, object),
@@ -47,6 +55,7 @@ fn turn(state: &mut State, chance: &mut Chance) {
         8 => remove_one(&mut state.definitions, chance),
         9 => remove_one(&mut state.structure, chance),
         10 => remove_one(&mut state.exports, chance),
+        11 => drop(add_own_import(state, chance)),
         _ => vouch(state, object, [area, other_area]),
     }
 }

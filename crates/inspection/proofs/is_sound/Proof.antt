@@ -1,4 +1,4 @@
--- `inspection::is_sound` meets its contract: sound is well-formed and valid.
+-- `inspection::is_sound` meets its contract: sound is well-formed, valid and without an own import.
 -- Assumes nothing.
 use mathlib.Core.Path.{_≡_, refl, sym, subst, _∙_}
 use mathlib.Core.Logic.{_↔_}
@@ -9,7 +9,7 @@ use Rattle.state.specs.Site.{Site, Shaped}
 use Rattle.state.specs.Stands.{site}
 use Rattle.state.proofs.Typed.{shaped-by-type}
 use Rattle.soundness.specs.Sound.{Sound}
-use Rattle.soundness.specs.Tests.{isWellFormed, isValid, isSound}
+use Rattle.soundness.specs.Tests.{isWellFormed, isValid, noOwnImport, isSound}
 use Rattle.soundness.proofs.Laws.{sound-decided}
 use Rattle.inspection.proofs.is_sound.Statement.{statement}
 use Rattle.inspection.proofs.is_sound.Tie as tie
@@ -18,9 +18,13 @@ ill-formed : (s : Site) → isWellFormed s ≡ false → false ≡ isSound s
 unfolding isSound
 ill-formed s e = rw e refl
 
-by-validity : (s : Site) → isWellFormed s ≡ true → isValid s ≡ isSound s
+invalid : (s : Site) → isWellFormed s ≡ true → isValid s ≡ false → false ≡ isSound s
 unfolding isSound
-by-validity s e = rw e refl
+invalid s e v = rw (e, v) refl
+
+by-imports : (s : Site) → isWellFormed s ≡ true → isValid s ≡ true → noOwnImport s ≡ isSound s
+unfolding isSound
+by-imports s e v = rw (e, v) refl
 
 shaped : (c : tie.Start) → Shaped (site (c .args .s))
 shaped c = shaped-by-type (c .args .s) _ (c .good .0 .1 .1)
@@ -32,10 +36,24 @@ deciding s h b e = (e, subst (λ (v : Bool). T v ↔ Sound s) (sym e) (sound-dec
 returns : tie.Need-returns
 returns c = deciding _ (shaped (c .before .before)) false (ill-formed _ (sym (c .before .is-well-formed .ensures) ∙ not-true _ (c .if1 .taken)))
 
+-- what was passed
+formed : (c : tie.Else1) → isWellFormed (site (c .before .before .args .s)) ≡ true
+formed c = sym (c .before .is-well-formed .ensures) ∙ not-false _ (c .if1 .left)
+
+valid : (c : tie.Else2) → isValid (site (c .before .before .before .before .args .s)) ≡ true
+valid c = sym (c .before .is-valid .ensures .0) ∙ not-false _ (c .if2 .left)
+
 returns-2 : tie.Need-returns-2
 returns-2 c =
-    deciding _ (shaped (c .before .before .before)) _
-    (c .is-valid .ensures .0 ∙ by-validity _ (sym (c .before .before .is-well-formed .ensures) ∙ not-false _ (c .before .if1 .left)))
+    let passed = c .before .before in
+    deciding _ (shaped (passed .before .before)) false
+    (invalid _ (formed passed) (sym (c .before .is-valid .ensures .0) ∙ not-true _ (c .if2 .taken)))
+
+returns-3 : tie.Need-returns-3
+returns-3 c =
+    let passed = c .before in
+    deciding _ (shaped (passed .before .before .before .before)) _
+    (c .has-no-own-import .ensures .0 ∙ by-imports _ (formed (passed .before .before)) (valid passed))
 
 pub is-sound-spec : {M : Type 1} → statement M
-is-sound-spec = tie.close (tie.spec (λ c κs. tt) returns (λ c κs. tt) returns-2)
+is-sound-spec = tie.close (tie.spec (λ c κs. tt) returns (λ c κs. tt) returns-2 (λ c κs. tt) returns-3)

@@ -11,7 +11,8 @@ use Rattle.refusals.proofs.early_refusal.Tie as tie
 
 returns : tie.Need-returns
 returns c =
-    let absent = c .before .before .before in
+    let own-import = c .before .before .before .before in
+    let absent = own-import .before in
     let present = absent .before .before .before in
     let entitled = present .before in
     let missing = entitled .before in
@@ -23,10 +24,11 @@ returns c =
     ∷ (5 when not (entitled .is-entitled .ensures i))
     ∷ (6 when x .rule .adds && present .is-present .ensures i)
     ∷ (7 when not (x .rule .adds) && absent .is-absent .ensures i)
+    ∷ (15 when x .rule .adds && own-import .is-own-import .ensures i)
     ∷ []))
 
 pub early-refusal-spec : {M : Type 1} → statement M
 early-refusal-spec =
     tie.close
-    (tie.spec (λ c κs. tt) (λ c κs. tt) (λ c κs. tt) (λ c κs. tt) (λ c. search needs) (λ c. search needs)
+    (tie.spec (λ c κs. tt) (λ c κs. tt) (λ c κs. tt) (λ c κs. tt) (λ c κs. tt) (λ c. search needs) (λ c. search needs)
     (λ c κs. omega arith) returns)

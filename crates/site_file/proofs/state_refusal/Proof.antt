@@ -1,13 +1,13 @@
--- `site_file::state_refusal` meets its contract: 28 where one of its two tests fails, then 29.
+-- `site_file::state_refusal` meets its contract: 28 where one of its two tests fails, then 29 where one of its two does.
 -- Assumes nothing.
 use Prim.Native.Nat.{ℕ}
-use mathlib.Core.Path.{_≡_, sym, ap, subst, _∙_}
+use mathlib.Core.Path.{_≡_, refl, sym, ap, ap₂, subst, _∙_}
 use mathlib.Core.Bool.{Bool, true, false, _||_, not}
 use mathlib.Core.List.{List}
 use Rattle.state.specs.Site.{Site, Shaped}
 use Rattle.state.specs.Stands.{site}
 use Rattle.state.proofs.Checks.{met, passed, none-met}
-use Rattle.soundness.specs.Tests.{isWellFormed, isValid}
+use Rattle.soundness.specs.Tests.{isWellFormed, isValid, noOwnImport}
 use Rattle.label_tables.specs.Labels.{labelsListed}
 use Rattle.site_format.specs.Format.{labels, part}
 use Rattle.site_file.specs.Reading.{stateIn, noOwner, namesUnlisted, definedTwice}
@@ -48,18 +48,33 @@ returns c = sym (met _ _ (ill-formed _ _ (c .before .before .before .pre) (c .be
 returns-2 : tie.Need-returns-2
 returns-2 c = sym (met _ _ (by-listed (c .before) true (c .if2 .taken)))
 
--- past 28, validity decides 29
+-- 29, from what was told of the state
+refused : (s : Site) {valid borrowed : Bool} (v w : Bool) → valid ≡ isValid s → borrowed ≡ noOwnImport s
+    → not valid ≡ v → not borrowed ≡ w → (not (isValid s) || not (noOwnImport s)) ≡ (v || w)
+refused s v w e k n m = ap₂ _||_ (sym (ap not e) ∙ n) (sym (ap not k) ∙ m)
+
+-- past 28, validity decides 29, and behind it the imports
 returns-3 : tie.Need-returns-3
 returns-3 c =
     let listed = c .before .before in
-    sym (passed _ _ (by-listed (listed .before) false (listed .if2 .left)) ∙ met _ _ (sym (ap not (c .before .is-valid .ensures .0)) ∙ c .if3 .taken))
+    sym (passed _ _ (by-listed (listed .before) false (listed .if2 .left)) ∙ met _ _ (refused _ true _ (c .before .is-valid .ensures .0) refl (c .if3 .taken) refl))
 
 returns-4 : tie.Need-returns-4
 returns-4 c =
-    let listed = c .before .before in
-    sym (passed _ _ (by-listed (listed .before) false (listed .if2 .left)) ∙ passed _ _ (sym (ap not (c .before .is-valid .ensures .0)) ∙ c .if3 .left) ∙ none-met)
+    let valid = c .before .before in
+    let listed = valid .before .before in
+    sym (passed _ _ (by-listed (listed .before) false (listed .if2 .left))
+    ∙ met _ _ (refused _ false true (valid .before .is-valid .ensures .0) (c .before .has-no-own-import .ensures .0) (valid .if3 .left) (c .if4 .taken)))
+
+returns-5 : tie.Need-returns-5
+returns-5 c =
+    let valid = c .before .before in
+    let listed = valid .before .before in
+    sym (passed _ _ (by-listed (listed .before) false (listed .if2 .left))
+    ∙ passed _ _ (refused _ false false (valid .before .is-valid .ensures .0) (c .before .has-no-own-import .ensures .0) (valid .if3 .left) (c .if4 .left))
+    ∙ none-met)
 
 pub state-refusal-spec : {M : Type 1} → statement M
 state-refusal-spec =
     tie.close
-    (tie.spec (λ c κs. tt) returns (λ c κs. tt) (λ c κs. tt) returns-2 (λ c κs. tt) returns-3 returns-4)
+    (tie.spec (λ c κs. tt) returns (λ c κs. tt) (λ c κs. tt) returns-2 (λ c κs. tt) returns-3 (λ c κs. tt) returns-4 returns-5)
