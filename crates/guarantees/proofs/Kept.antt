@@ -298,14 +298,14 @@ module _ (s : Site) (h : Sound s) where
 
     pair-add : Named s r i j → ((import ≡ r) ⊎ (export ≡ r) → T (access (lending (withPair s r i j true) i) j)) → (import ≡ r → T (defines s i j) → ⊥)
         → Sound (withPair s r i j true)
-    pair-add names entry borrowed =
+    pair-add names entry not-own =
         record {
           shaped = relate-shaped s r i j true (h .shaped);
           consistent = consistent-add s r i j (h .consistent) names;
           acceptable = acceptable-pair s r i j true no-owner no-definition (h .acceptable);
           some-area = some-area-pair true;
           valid = valid-add s r i j entry (h .valid);
-          no-own-import = own-add s r i j borrowed (λ e. absurd (no-definition e)) (h .no-own-import);
+          no-own-import = own-add s r i j not-own (λ e. absurd (no-definition e)) (h .no-own-import);
         }
 
     pair-remove : Valid (withPair s r i j false) → Sound (withPair s r i j false)
@@ -323,10 +323,10 @@ module _ (s : Site) (h : Sound s) where
   entry-add : (r : Relation) → (owner ≡ r → ⊥) → (definition ≡ r → ⊥) → firstKind r ≡ object → (a b : ℕ)
       → not (listed s area a && listed s object b) ≡ false → not (access (lending (withPair s r b a true) b) a) ≡ false
       → (import ≡ r → T (defines s b a) → ⊥) → Sound (withPair s r b a true)
-  entry-add r no-owner no-definition kind a b names reaches borrowed =
+  entry-add r no-owner no-definition kind a b names reaches not-own =
       let n = both-so (listed s area a) (listed s object b) names in
       pair-add r no-owner no-definition b a (record { first = subst (λ (k : Kind). T (listed s k b)) (sym kind) (n .1); second = n .0 })
-      (λ e. so (access (lending (withPair s r b a true) b) a) reaches) borrowed
+      (λ e. so (access (lending (withPair s r b a true) b) a) reaches) not-own
 
   -- codes 6, 10 and 12: a pair whose loss leaves the state valid
   valid-cut : (r : Relation) → (owner ≡ r → ⊥) → (definition ≡ r → ⊥) → (i j : ℕ) → not (isValid (withPair s r i j false)) ≡ false → Sound (withPair s r i j false)

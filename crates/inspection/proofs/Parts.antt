@@ -8,16 +8,15 @@
 use Prim.Native.Nat.{ℕ, _+_, _*_, _/_, _%_, _<_}
 use mathlib.Core.Path.{_≡_, refl, sym, ap, subst, _∙_}
 use mathlib.Core.Bool.{Bool, true, false, _&&_, _||_, not}
-use mathlib.Core.Logic.{_↔_, inr}
+use mathlib.Core.Logic.{_↔_}
 use native.Mathlib.Omega.{arith}
-use native.Mathlib.Decide.{decLt}
 use borrow.Author.Tests.{eqb-true, eq-eqb}
 use lib.Dec.{T, eqb}
 use lib.ListN.{length, getD}
 use Rattle.state.specs.Cells.{Members, Pairs, width, member, pair}
 use Rattle.state.specs.Walk.{eachMember, hasFirst, hasSecond}
-use Rattle.state.proofs.Bools.{and-both, and-left, and-right, is-true, holds, fails, same-test, not-so, so-not, implied, implies}
-use Rattle.state.proofs.Laws.{member-cell, pair-cell, pair-past, each-member, each-pair, has-first, has-second, member-inside, pair-area, pair-first}
+use Rattle.state.proofs.Bools.{and-both, and-left, and-right, is-true, holds, same-test, not-so, so-not, implied, implies}
+use Rattle.state.proofs.Laws.{member-cell, pair-cell, pair-at, each-member, each-pair, has-first, has-second, member-inside, pair-placed, pair-area, pair-first}
 use Rattle.rows.specs.Rows.{row, transpose}
 use Rattle.rows.proofs.Laws.{row-reads, transpose-reads}
 use Rattle.access.specs.Answer.{Areas, has}
@@ -144,18 +143,6 @@ own-turned areas owners la lo =
 -- there is no pair at place k of both
 abbrev pub cellApart : (these those : Pairs) → ℕ → Bool
 cellApart these those k = not (getD these k false && getD those k false)
-
--- the pair whose place is k
-pair-at : (c : Pairs) (k : ℕ) → pair c (k / width) (k % width) ≡ getD c k false
-pair-at c k = pair-cell c (k / width) (k % width) (omega arith) ∙ ap (λ (n : ℕ). getD c n false) (omega arith)
-
--- a pair that is there has a place
-pair-placed : (c : Pairs) (i j : ℕ) → T (pair c i j) → i * width + j < length c
-pair-placed c i j p = go (decLt (i * width + j) (length c))
-  where
-    go : Dec (i * width + j < length c) → i * width + j < length c
-    go (yes h) = h
-    go (no h) = absurd (fails (pair-past c i j (inr (omega arith))) p)
 
 pub disjoint-by-cells : (these those : Pairs) → disjoint these those ≡ eachBelow (length these) (cellApart these those)
 unfolding disjoint

@@ -18,7 +18,7 @@ use Rattle.state.specs.Site.{Site}
 use Rattle.records.specs.Record.{listStart, pairStart, recordSize, bit, listByte, listBytes, pairByte, pairBytes, bytesOf}
 use Rattle.records.specs.Bits.{bits}
 use Rattle.state.proofs.Tabulate.{length-tabulate, tabulate-is}
-use Rattle.state.proofs.Laws.{member-cell, pair-cell}
+use Rattle.state.proofs.Laws.{member-cell, pair-at}
 use Rattle.records.proofs.Bits.{bits-append, bits-length}
 
 -- the cells of a state, those of one set or relation behind those of another
@@ -59,7 +59,7 @@ list-bits c n h =
 pair-bits : (c : List Bool) (n : ℕ) → length c ≡ n → tabulate n (λ p. bit (pair c (p / width) (p % width))) ≡ bits c
 pair-bits c n h =
     sym (tabulate-is (λ p. bit (pair c (p / width) (p % width))) n 0 (bits c) (bits-length c ∙ h)
-    (λ k q. List·getD-map bit c k false ∙ ap bit (ap (λ (p : ℕ). getD c p false) (omega arith) ∙ sym (pair-cell c (k / width) (k % width) (omega arith)))))
+    (λ k q. List·getD-map bit c k false ∙ ap bit (sym (pair-at c k))))
 
 joined : (c d : List Bool) {x y : List ℕ} → x ≡ bits c → y ≡ bits d → x ++ y ≡ bits (c ++ d)
 joined c d e f = ap₂ _++_ e f ∙ sym (bits-append c d)

@@ -205,5 +205,5 @@ module _ (s : Site) (l : List ℕ) (h : Sound s) (law : Lawful s l) where
           labelled = rw (held, written labels) (law .listed);
           defined-once = rw held (not-twice s (h .acceptable .objects) (λ o a p. h .consistent definition o a p .first));
           valid = rw held (valid-decided s .1 (h .valid));
-          borrowed = rw held (no-own-import-decided s .1 (h .no-own-import));
+          no-own-import = rw held (no-own-import-decided s .1 (h .no-own-import));
         }

@@ -4,7 +4,7 @@
 -- Assumes nothing.
 use Prim.Native.Nat.{ℕ, _≤_}
 use mathlib.Core.Path.{_≡_, refl, ap, ap₂, _∙_}
-use mathlib.Core.Bool.{Bool, false, _||_, not, cond}
+use mathlib.Core.Bool.{Bool, true, false, _||_, not, cond}
 use mathlib.Core.List.{List, _++_}
 use borrow.Author.Tests.{le-ltb, eq-eqb}
 use lib.Dec.{T, eqb, ltb, eqb→eq, nltb→le}
@@ -22,7 +22,7 @@ use Rattle.site_format.proofs.Tables.{test-of, by-test}
 use Rattle.site_header.proofs.Laws.{part-size}
 use Rattle.site_header.specs.Header.{countsFit, placedFrom, headerChecks}
 use Rattle.site_file.specs.Claims
-use Rattle.site_file.specs.Reading.{tablesFit, tablesAscend, stateIn, noOwner, definedTwice, tableChecks, stateChecks, fileChecks, fileRefusal, readOf}
+use Rattle.site_file.specs.Reading.{tablesFit, tablesAscend, stateIn, noOwner, namesUnlisted, definedTwice, tableChecks, stateChecks, fileChecks, fileRefusal, readOf}
 use Rattle.site_file.proofs.Held.{derived, shaped, sound-by, some-owner, not-twice}
 
 -- ---- what the checks say
@@ -39,7 +39,7 @@ pub record Checked (file : List ℕ) : Type 0 where
   pub labelled : T (labelsListed (stateIn file .areas) (part file labels))
   pub defined-once : definedTwice (stateIn file) ≡ false
   pub valid : T (isValid (stateIn file))
-  pub borrowed : T (noOwnImport (stateIn file))
+  pub no-own-import : T (noOwnImport (stateIn file))
 
 -- 28 is not met: none of its parts is
 abbrev Passed28 : (none unnamed unlisted twice : Bool) → Type 0
@@ -80,7 +80,7 @@ checked file e =
       labelled = so (labelsListed (stateIn file .areas) (part file labels)) (q .2);
       defined-once = q .3;
       valid = so (isValid (stateIn file)) (r .0);
-      borrowed = so (noOwnImport (stateIn file)) (r .1);
+      no-own-import = so (noOwnImport (stateIn file)) (r .1);
     }
   where
     p : (n : ℕ) → metAt n (fileChecks file) ≡ false
@@ -103,23 +103,19 @@ accepted file k =
     ∙ passed _ _ (hold (tablesFit file) (by-test (λ x. contentFits x (part file x)) tables (k .in-range)))
     ∙ passed _ _ (hold (tablesAscend file) (by-test (λ x. contentAscends x (part file x)) tables (k .ascends)))
     ∙ passed _ _ (joined (noOwner (stateIn file)) (not (isConsistent (stateIn file))) (not (labelsListed (stateIn file .areas) (part file labels))) (definedTwice (stateIn file)) (k .owned, hold (isConsistent (stateIn file)) (k .named), hold (labelsListed (stateIn file .areas) (part file labels)) (k .labelled), k .defined-once))
-    ∙ passed _ _ (ap₂ _||_ (hold (isValid (stateIn file)) (k .valid)) (hold (noOwnImport (stateIn file)) (k .borrowed)))
+    ∙ passed _ _ (ap₂ _||_ (hold (isValid (stateIn file)) (k .valid)) (hold (noOwnImport (stateIn file)) (k .no-own-import)))
     ∙ none-met
+
+-- where 21 to 27 are not met, the state and the labels decide
+by-state : (file : List ℕ) → firstMet (headerChecks file ++ tableChecks file) ≡ 0 → fileRefusal file ≡ firstMet (stateChecks (stateIn file) (part file labels))
+unfolding fileRefusal
+by-state file e =
+    first-of-two (headerChecks file ++ tableChecks file) (stateChecks (stateIn file) (part file labels)) tt
+    ∙ ap (λ (n : ℕ). cond (eqb n 0) (firstMet (stateChecks (stateIn file) (part file labels))) n) e
 
 -- an import by the area that defines the object, with nothing wrong before it
 pub own-import-is-29 : Claims.OwnImportIs29
-unfolding fileRefusal
-own-import-is-29 file k o a p d =
-    first-of-two (headerChecks file ++ tableChecks file) (stateChecks s l) tt
-    ∙ ap (λ (n : ℕ). cond (eqb n 0) (firstMet (stateChecks s l)) n) (k .no-refusal)
-    ∙ passed _ _ (joined (noOwner s) (not (isConsistent s)) (not (labelsListed (s .areas) l)) (definedTwice s) (
-      some-owner s (k .acceptable) (k .some-area),
-      hold (isConsistent s) (consistent-decided s .1 (k .consistent)),
-      hold (labelsListed (s .areas) l) (k .labelled),
-      not-twice s (k .acceptable .objects) (λ o a p. k .consistent definition o a p .first),
-    ))
-    ∙ met _ _ (is-true (not (isValid s) || not (noOwnImport s))
-    (or-right (not (isValid s)) (not (noOwnImport s)) (so-not (noOwnImport s) (λ t. no-own-import-decided s .0 t o a p d))))
+own-import-is-29 file k o a p d = by-state file (k .no-refusal) ∙ passed _ _ not-28 ∙ met _ _ is-29
   where
     s : Site
     s = stateIn file
@@ -127,10 +123,24 @@ own-import-is-29 file k o a p d =
     l : List ℕ
     l = part file labels
 
+    not-28 : (noOwner s || namesUnlisted s l || definedTwice s) ≡ false
+    not-28 =
+        joined (noOwner s) (not (isConsistent s)) (not (labelsListed (s .areas) l)) (definedTwice s) (
+          some-owner s (k .acceptable) (k .some-area),
+          hold (isConsistent s) (consistent-decided s .1 (k .consistent)),
+          hold (labelsListed (s .areas) l) (k .labelled),
+          not-twice s (k .acceptable .objects) (λ o a p. k .consistent definition o a p .first),
+        )
+
+    is-29 : (not (isValid s) || not (noOwnImport s)) ≡ true
+    is-29 =
+        is-true (not (isValid s) || not (noOwnImport s))
+        (or-right (not (isValid s)) (not (noOwnImport s)) (so-not (noOwnImport s) (λ t. no-own-import-decided s .0 t o a p d)))
+
 -- The state of a file that passes each check is sound, and each of its tables has the bytes that its count says.
 module _ (file : List ℕ) (k : Checked file) where
   pub state-sound : Sound (stateIn file)
-  state-sound = sound-by (stateIn file) (derived file) (shaped file) (k .owned) (k .named) (k .defined-once) (k .valid) (k .borrowed)
+  state-sound = sound-by (stateIn file) (derived file) (shaped file) (k .owned) (k .named) (k .defined-once) (k .valid) (k .no-own-import)
 
   pub sized : (c : Content) → length (part file c) ≡ sizeIn file c
   sized = part-size file (k .placed)

@@ -112,14 +112,14 @@ module _ (s : Site) (d : Derived s) (shape : Shaped s) where
   acceptable-by once = record { users = λ u h. derived-lists s d shape user u .0 h; areas = λ a h. derived-lists s d shape area a .0 h; objects = defined-once once }
 
   pub sound-by : noOwner s ≡ false → T (isConsistent s) → definedTwice s ≡ false → T (isValid s) → T (noOwnImport s) → Sound s
-  sound-by owned named once valid borrowed =
+  sound-by owned named once valid no-own =
       record {
         shaped = shape;
         consistent = consistent;
         acceptable = acceptable-by once;
         some-area = (pair .1, consistent owner (pair .0) (pair .1) (pair .2) .second);
         valid = valid-decided s .0 valid;
-        no-own-import = no-own-import-decided s .0 borrowed;
+        no-own-import = no-own-import-decided s .0 no-own;
       }
     where
       consistent : Consistent s

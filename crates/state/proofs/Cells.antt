@@ -133,7 +133,7 @@ pair-other c i j m n v ne = go (decLt j width) (decLt n width)
 
 -- ---- one pair more, one pair fewer
 -- a pair has its cell
-pair-has-cell : (c : Pairs) (i j : ℕ) → T (pair c i j) → (j < width) × (i * width + j < length c)
+pub pair-has-cell : (c : Pairs) (i j : ℕ) → T (pair c i j) → (j < width) × (i * width + j < length c)
 pair-has-cell c i j t = (area (decLt j width), cell (decLt (i * width + j) (length c)))
   where
     area : Dec (j < width) → j < width

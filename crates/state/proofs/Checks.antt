@@ -2,17 +2,18 @@
 --     met, passed, none-met   the first check decides, or the rest do; or there is none
 --     first-of-two            of two tables in a row, the second counts where none of the first is met
 --     none-met-at             where the number is 0, no condition is met, by its number
+--     met-at, unmet-before    where the number is n, its condition is met, and none that stands before it
 --     first-meets             a test that every number of the table meets
 --     among-meets             a test that each number of a list meets
 -- Assumes nothing.
 use Prim.Native.Nat.{ℕ}
 use mathlib.Core.Path.{_≡_, refl, sym, ap, subst, _∙_}
 use mathlib.Core.Logic.{_⊎_, inl, inr}
-use mathlib.Core.Bool.{Bool, true, false, _&&_, not, cond}
+use mathlib.Core.Bool.{Bool, true, false, _&&_, _||_, not, cond}
 use mathlib.Core.List.{List, [], _∷_, _++_}
 use lib.Dec.{T, eqb}
-use borrow.Author.Tests.{eqb-true}
-use Rattle.state.proofs.Bools.{and-left, and-right, or-cases, is-true, is-false, not-so}
+use borrow.Author.Tests.{eqb-true, eq-eqb}
+use Rattle.state.proofs.Bools.{and-left, and-right, or-cases, is-true, is-false, holds, fails, not-so}
 use Rattle.state.specs.Checks
 use Rattle.state.specs.Checks.{Check, firstMet, metAt, among, eachNumber, numbered}
 
@@ -65,6 +66,46 @@ none-met-at (c ∷ rest) n e k = go (none-met-at rest (and-right (not (eqb (c .n
     go : (firstMet rest ≡ 0 → (m : ℕ) → metAt m rest ≡ false) → (b : Bool) → c .met ≡ b → metAt k (c ∷ rest) ≡ false
     go others true m = absurd (zero-number (sym (met c rest m) ∙ e))
     go others false m = here (eqb (c .number) k) m (others (sym (passed c rest m) ∙ e) k)
+
+-- number n stands in the table at most once
+abbrev pub once : ℕ → List Check → Bool
+once n [] = true
+once n (c ∷ rest) = cond (eqb (c .number) n) (eachNumber (λ k. not (eqb k n)) rest) (once n rest)
+
+pub met-at : (n : ℕ) → T (not (eqb 0 n)) → (table : List Check) → T (once n table) → firstMet table ≡ n → T (metAt n table)
+met-at n nonzero [] o e = absurd (not-so (eqb 0 n) nonzero (holds (eq-eqb 0 n (sym none-met ∙ e))))
+met-at n nonzero (c ∷ rest) o e = go (met-at n nonzero rest) (eqb (c .number) n) refl (c .met) refl o
+  where
+    go : (T (once n rest) → firstMet rest ≡ n → T (metAt n rest)) → (same : Bool) → eqb (c .number) n ≡ same → (v : Bool) → c .met ≡ v
+        → T (cond same (eachNumber (λ k. not (eqb k n)) rest) (once n rest)) → T (cond same (c .met) (metAt n rest))
+    go later true q true m o = holds m
+    go later true q false m o =
+        absurd (not-so (eqb (firstMet rest) n) (first-meets (λ k. not (eqb k n)) rest nonzero o) (holds (eq-eqb (firstMet rest) n (sym (passed c rest m) ∙ e))))
+    go later false q true m o = absurd (fails q (holds (eq-eqb (c .number) n (sym (met c rest m) ∙ e))))
+    go later false q false m o = later o (sym (passed c rest m) ∙ e)
+
+-- number k stands in the table, and n not up to there
+abbrev pub standsBefore : (k n : ℕ) → List Check → Bool
+standsBefore k n [] = false
+standsBefore k n (c ∷ rest) = not (eqb (c .number) n) && (eqb (c .number) k || standsBefore k n rest)
+
+pub unmet-before : (k n : ℕ) (table : List Check) → T (standsBefore k n table) → firstMet table ≡ n → metAt k table ≡ false
+unmet-before k n [] b e = absurd b
+unmet-before k n (c ∷ rest) b e = go (unmet-before k n rest) (c .met) refl
+  where
+    differs : T (not (eqb (c .number) n))
+    differs = and-left (not (eqb (c .number) n)) (eqb (c .number) k || standsBefore k n rest) b
+
+    here : (same : Bool) → T (same || standsBefore k n rest) → c .met ≡ false → (T (standsBefore k n rest) → metAt k rest ≡ false)
+        → cond same (c .met) (metAt k rest) ≡ false
+    here true stands m later = m
+    here false stands m later = later stands
+
+    go : (T (standsBefore k n rest) → firstMet rest ≡ n → metAt k rest ≡ false) → (v : Bool) → c .met ≡ v → metAt k (c ∷ rest) ≡ false
+    go later true m = absurd (not-so (eqb (c .number) n) differs (holds (eq-eqb (c .number) n (sym (met c rest m) ∙ e))))
+    go later false m =
+        here (eqb (c .number) k) (and-right (not (eqb (c .number) n)) (eqb (c .number) k || standsBefore k n rest) b) m
+        (λ stands. later stands (sym (passed c rest m) ∙ e))
 
 pub first-of-two : (l m : List Check) → T (numbered l) → firstMet (l ++ m) ≡ cond (eqb (firstMet l) 0) (firstMet m) (firstMet l)
 first-of-two [] m n = ap (λ (k : ℕ). cond (eqb k 0) (firstMet m) k) (sym none-met)

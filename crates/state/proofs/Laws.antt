@@ -18,7 +18,7 @@ use Rattle.state.specs.Laws
 use Rattle.state.specs.Site.{Site}
 use Rattle.state.proofs.Bools.{is-true, holds, fails, not-so, so-not, not-not}
 use Rattle.state.proofs.Walk.{some-found, some-there, count-within}
-use Rattle.state.proofs.Cells.{member-outside, mark-outside, length-mark, member-same, member-other, member-else, member-kept, member-removed, member-ext, pair-inside, pair-outside, pair-beyond, put-outside, put-past, length-put, pair-same, pair-other, same-or-other, pair-kept, pair-removed, no-member, no-pair, only-zero, only-zeros}
+use Rattle.state.proofs.Cells.{member-outside, mark-outside, length-mark, member-same, member-other, member-else, member-kept, member-removed, member-ext, pair-inside, pair-outside, pair-beyond, put-outside, put-past, length-put, pair-same, pair-other, pair-has-cell, same-or-other, pair-kept, pair-removed, no-member, no-pair, only-zero, only-zeros}
 
 -- ---- one of several is written
 -- Things of K are told apart by a number. One of them, k, is written; this is what each, l, is afterwards.
@@ -175,6 +175,9 @@ pub pair-past : Laws.PairPast
 pair-past c i j (inl h) = pair-outside c i j h
 pair-past c i j (inr h) = pair-beyond c i j h
 
+pub pair-at : Laws.PairAt
+pair-at c k = pair-inside c (k / width) (k % width) (omega arith) ∙ ap (λ (n : ℕ). getD c n false) (omega arith)
+
 pub related-outside : Laws.RelatedOutside
 related-outside s r i j sh (inl h) = pair-beyond (cells s r) i j (rw (sh .relations r) (omega arith))
 related-outside s r i j sh (inr h) = pair-outside (cells s r) i j h
@@ -193,13 +196,6 @@ each-is there test some found back =
 pub each-member : Laws.EachMember
 each-member c test = let s = some-member c (λ i. not (test i)) in each-is (λ i. T (member c i)) test (someMember c (λ i. not (test i))) (s .0) (s .1)
 
--- cell k is that of one pair
-cell-pair : (c : Pairs) (k : ℕ) → T (getD c k false) → T (pair c (k / width) (k % width))
-cell-pair c k t =
-    let inside : k % width < width = omega arith in
-    let place : k / width * width + k % width ≡ k = omega arith in
-    rw (pair-inside c (k / width) (k % width) inside, place) t
-
 -- ---- what is there lies inside
 pub member-inside : Laws.MemberInside
 member-inside c i t = go (decLt i (length c))
@@ -208,12 +204,11 @@ member-inside c i t = go (decLt i (length c))
     go (yes h) = h
     go (no h) = absurd (fails (member-outside c i (omega arith)) t)
 
+pub pair-placed : Laws.PairPlaced
+pair-placed c i j t = pair-has-cell c i j t .1
+
 pub pair-area : Laws.PairArea
-pair-area c i j t = go (decLt j width)
-  where
-    go : Dec (j < width) → j < width
-    go (yes h) = h
-    go (no h) = absurd (fails (pair-outside c i j (omega arith)) t)
+pair-area c i j t = pair-has-cell c i j t .0
 
 pub pair-first : Laws.PairFirst
 pair-first c n i j long t = go (decLt i n)
@@ -247,7 +242,7 @@ others-stay s r t i j m n v ne h = go (related-else s r t i j m n v)
 pub some-pair : Laws.SomePair
 unfolding somePair
 some-pair c test = (
-  λ t. let r = some-found _ c t in (r .0 / width, r .0 % width, cell-pair c (r .0) (r .1), r .2),
+  λ t. let r = some-found _ c t in (r .0 / width, r .0 % width, subst T (sym (pair-at c (r .0))) (r .1), r .2),
   λ r. found (r .0) (r .1) (r .2) (r .3),
 )
   where
@@ -348,9 +343,7 @@ pair-ext c d n lc ld each = ext-getD false c d (lc ∙ sym ld) at
     at k h =
         let row : k / width < n = omega arith in
         let column : k % width < width = omega arith in
-        let cell : k / width * width + k % width ≡ k = omega arith in
-        ap (λ (m : ℕ). getD c m false) (sym cell) ∙ sym (pair-inside c (k / width) (k % width) column) ∙ each (k / width) (k % width) row column
-        ∙ pair-inside d (k / width) (k % width) column ∙ ap (λ (m : ℕ). getD d m false) cell
+        sym (pair-at c k) ∙ each (k / width) (k % width) row column ∙ pair-at d k
 
 pub one-record : Laws.OneRecord
 one-record s t ss st same =

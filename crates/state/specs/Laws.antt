@@ -1,7 +1,7 @@
 -- What is claimed of the readings and updates: reading after writing the same place, another place, another field; what
 -- lies outside; and that two records with equal readings are equal. Each claim is a type, which proofs/Laws.antt
 -- inhabits under the claim's name.
-use Prim.Native.Nat.{ℕ, _+_, _*_, _≤_, _<_}
+use Prim.Native.Nat.{ℕ, _+_, _*_, _/_, _%_, _≤_, _<_}
 use mathlib.Core.Path.{_≡_}
 use mathlib.Core.Bool.{Bool, true, false, _&&_}
 use mathlib.Core.Logic.{_⊎_, _↔_}
@@ -115,6 +115,10 @@ PairCell = (c : Pairs) (i j : ℕ) → j < width → pair c i j ≡ getD c (i * 
 abbrev pub PairPast : Type 0
 PairPast = (c : Pairs) (i j : ℕ) → (width ≤ j) ⊎ (length c ≤ i * width + j) → pair c i j ≡ false
 
+-- the pair whose cell is k
+abbrev pub PairAt : Type 0
+PairAt = (c : Pairs) (k : ℕ) → pair c (k / width) (k % width) ≡ getD c k false
+
 -- ---- some, or each, of what a set or a relation holds
 abbrev pub SomeMember : Type 0
 SomeMember = (c : Members) (test : ℕ → Bool) → T (someMember c test) ↔ ((i : ℕ) × T (member c i) × T (test i))
@@ -137,6 +141,9 @@ HasSecond = (c : Pairs) (j : ℕ) → T (hasSecond c j) ↔ ((i : ℕ) × T (pai
 -- ---- what is there lies inside
 abbrev pub MemberInside : Type 0
 MemberInside = (c : Members) (i : ℕ) → T (member c i) → i < length c
+
+abbrev pub PairPlaced : Type 0
+PairPlaced = (c : Pairs) (i j : ℕ) → T (pair c i j) → i * width + j < length c
 
 abbrev pub PairArea : Type 0
 PairArea = (c : Pairs) (i j : ℕ) → T (pair c i j) → j < width

@@ -29,12 +29,14 @@ by-imports s e v = rw (e, v) refl
 shaped : (c : tie.Start) → Shaped (site (c .args .s))
 shaped c = shaped-by-type (c .args .s) _ (c .good .0 .1 .1)
 
--- the equation, and with it the meaning
-deciding : (s : Site) → Shaped s → (b : Bool) → b ≡ isSound s → (b ≡ isSound s) × (T b ↔ Sound s)
-deciding s h b e = (e, subst (λ (v : Bool). T v ↔ Sound s) (sym e) (sound-decided s h))
+-- with the equation the meaning
+meaning : (s : Site) → Shaped s → (b : Bool) → b ≡ isSound s → T b ↔ Sound s
+meaning s h b e = subst (λ (v : Bool). T v ↔ Sound s) (sym e) (sound-decided s h)
 
 returns : tie.Need-returns
-returns c = deciding _ (shaped (c .before .before)) false (ill-formed _ (sym (c .before .is-well-formed .ensures) ∙ not-true _ (c .if1 .taken)))
+returns c =
+    let e = ill-formed _ (sym (c .before .is-well-formed .ensures) ∙ not-true _ (c .if1 .taken)) in
+    (e, meaning _ (shaped (c .before .before)) false e)
 
 -- what was passed
 formed : (c : tie.Else1) → isWellFormed (site (c .before .before .args .s)) ≡ true
@@ -46,14 +48,14 @@ valid c = sym (c .before .is-valid .ensures .0) ∙ not-false _ (c .if2 .left)
 returns-2 : tie.Need-returns-2
 returns-2 c =
     let passed = c .before .before in
-    deciding _ (shaped (passed .before .before)) false
-    (invalid _ (formed passed) (sym (c .before .is-valid .ensures .0) ∙ not-true _ (c .if2 .taken)))
+    let e = invalid _ (formed passed) (sym (c .before .is-valid .ensures .0) ∙ not-true _ (c .if2 .taken)) in
+    (e, meaning _ (shaped (passed .before .before)) false e)
 
 returns-3 : tie.Need-returns-3
 returns-3 c =
     let passed = c .before in
-    deciding _ (shaped (passed .before .before .before .before)) _
-    (c .has-no-own-import .ensures .0 ∙ by-imports _ (formed (passed .before .before)) (valid passed))
+    let e = c .has-no-own-import .ensures .0 ∙ by-imports _ (formed (passed .before .before)) (valid passed) in
+    (e, meaning _ (shaped (passed .before .before .before .before)) _ e)
 
 pub is-sound-spec : {M : Type 1} → statement M
 is-sound-spec = tie.close (tie.spec (λ c κs. tt) returns (λ c κs. tt) returns-2 (λ c κs. tt) returns-3)

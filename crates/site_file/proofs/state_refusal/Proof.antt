@@ -49,29 +49,29 @@ returns-2 : tie.Need-returns-2
 returns-2 c = sym (met _ _ (by-listed (c .before) true (c .if2 .taken)))
 
 -- 29, from what was told of the state
-refused : (s : Site) {valid borrowed : Bool} (v w : Bool) → valid ≡ isValid s → borrowed ≡ noOwnImport s
-    → not valid ≡ v → not borrowed ≡ w → (not (isValid s) || not (noOwnImport s)) ≡ (v || w)
-refused s v w e k n m = ap₂ _||_ (sym (ap not e) ∙ n) (sym (ap not k) ∙ m)
+by-entries : (s : Site) {valid no-own : Bool} (v w : Bool) → valid ≡ isValid s → no-own ≡ noOwnImport s
+    → not valid ≡ v → not no-own ≡ w → (not (isValid s) || not (noOwnImport s)) ≡ (v || w)
+by-entries s v w e k n m = ap₂ _||_ (sym (ap not e) ∙ n) (sym (ap not k) ∙ m)
 
 -- past 28, validity decides 29, and behind it the imports
 returns-3 : tie.Need-returns-3
 returns-3 c =
     let listed = c .before .before in
-    sym (passed _ _ (by-listed (listed .before) false (listed .if2 .left)) ∙ met _ _ (refused _ true _ (c .before .is-valid .ensures .0) refl (c .if3 .taken) refl))
+    sym (passed _ _ (by-listed (listed .before) false (listed .if2 .left)) ∙ met _ _ (by-entries _ true _ (c .before .is-valid .ensures .0) refl (c .if3 .taken) refl))
 
 returns-4 : tie.Need-returns-4
 returns-4 c =
     let valid = c .before .before in
     let listed = valid .before .before in
     sym (passed _ _ (by-listed (listed .before) false (listed .if2 .left))
-    ∙ met _ _ (refused _ false true (valid .before .is-valid .ensures .0) (c .before .has-no-own-import .ensures .0) (valid .if3 .left) (c .if4 .taken)))
+    ∙ met _ _ (by-entries _ false true (valid .before .is-valid .ensures .0) (c .before .has-no-own-import .ensures .0) (valid .if3 .left) (c .if4 .taken)))
 
 returns-5 : tie.Need-returns-5
 returns-5 c =
     let valid = c .before .before in
     let listed = valid .before .before in
     sym (passed _ _ (by-listed (listed .before) false (listed .if2 .left))
-    ∙ passed _ _ (refused _ false false (valid .before .is-valid .ensures .0) (c .before .has-no-own-import .ensures .0) (valid .if3 .left) (c .if4 .left))
+    ∙ passed _ _ (by-entries _ false false (valid .before .is-valid .ensures .0) (c .before .has-no-own-import .ensures .0) (valid .if3 .left) (c .if4 .left))
     ∙ none-met)
 
 pub state-refusal-spec : {M : Type 1} → statement M
