@@ -166,6 +166,12 @@ uint8_t panelrights_founding(uint8_t *state, size_t state_len);
 /*
  * Obeys one instruction. 0, and the record is that of the state after it; or the refusal, and no byte is
  * changed. A record of another length, or with a byte other than 0 and 1, is 12.
+ *
+ * An add (an odd code) that got 0 is taken back by the matching remove: code + 1, with the same activator, a
+ * and b. While the record is as the add left it, the remove gets 0, and every byte is then as it was before
+ * the add; a user who was listed only by that add is unlisted again. Questions and refused instructions change
+ * no byte. Of several adds the last is taken back first. Do not take back an add that was refused: its remove
+ * might take out what was there before.
  */
 uint8_t panelrights_step(uint8_t *state, size_t state_len, uint8_t code, uint8_t activator, uint8_t a, uint8_t b);
 

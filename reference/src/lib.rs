@@ -1,8 +1,8 @@
-//! The site access state machine of document 01, with points 2 and 4 of document 02, written a second time: sets of pairs instead
+//! The site access state machine of document 01, with points 2, 4 and 7 of document 02, written a second time: sets of pairs instead
 //! of arrays of cells.
 //!
-//! Each module follows one section of document 01, and each function quotes the sentence that it stands for; it is document 01's
-//! where no other document is named. docs/READINGS.md says how open places of both documents are read.
+//! Each module follows one section of document 01 or one point of document 02, and each function quotes the sentence that it stands
+//! for; it is document 01's where no other document is named. docs/READINGS.md says how open places of both documents are read.
 
 #![forbid(unsafe_code)]
 #![warn(missing_docs)]
@@ -18,6 +18,7 @@ mod site_file;
 mod small;
 mod soundness;
 mod state;
+mod taking_back;
 
 pub use instructions::{run, step, step_record};
 pub use lending::lending_guarantee;
@@ -28,3 +29,4 @@ pub use refusals::order_of_checks;
 pub use site_file::{label, read_file, write_file, Labels};
 pub use small::small_states;
 pub use state::State;
+pub use taking_back::{matching_remove, taken_back};

@@ -1,4 +1,4 @@
-//! The examples of document 01, points 2 and 4 of document 02, and the readings 1 to 13 of docs/READINGS.md.
+//! The examples of document 01, points 2, 4 and 7 of document 02, and the readings 1 to 14 of docs/READINGS.md.
 
 use reference::*;
 use std::collections::{BTreeMap, BTreeSet};
@@ -1900,6 +1900,421 @@ fn point_4_every_reached_state_is_sound() {
     assert!(seen[&0] > 1000 && seen[&15] > 1000, "{seen:?}");
 }
 
+// Document 02, point 7: taking back leaves no trace
+
+/// What the instruction gives at the state: 0 or its refusal, and the state beside it.
+fn gives(state: &State, instruction: [u8; 4]) -> (u8, State) {
+    match step(state, instruction) {
+        Ok(next) => (0, next),
+        Err(refusal) => (refusal, state.clone()),
+    }
+}
+
+/// Asserts that the add is accepted and that the remove right behind it takes it back, also on records and for the judge. Hands back
+/// the state between the two.
+fn taking_back(earlier: &State, add: [u8; 4], remove: [u8; 4]) -> State {
+    let (number, between) = gives(earlier, add);
+    assert_eq!(number, 0, "{add:?} at {earlier:?}");
+    let (number, after) = gives(&between, remove);
+    assert_eq!((number, &after), (0, earlier), "{remove:?} at {between:?}");
+    assert_eq!(step_record(&to_record(&between), remove), Ok(to_record(earlier)));
+    assert_eq!(matching_remove(add), Some(remove));
+    assert_eq!(taken_back(earlier, add, number, &after), Ok(()));
+    assert!(taken_back(earlier, add, number, &between).is_err()); // what was added would be a trace
+    between
+}
+
+/// Users 0, 4 and 6; areas 0, 1 and 2 are user 0's, area 2 user 4's too, area 5 user 6's. Area 2 lies in area 1 and area 1 in area 0.
+/// Area 0 defines object 9, which area 1 imports; area 2 defines object 8 and exports it.
+fn hand_made() -> State {
+    State {
+        users: BTreeSet::from([0, 4, 6]),
+        areas: BTreeSet::from([0, 1, 2, 5]),
+        objects: BTreeSet::from([8, 9]),
+        owners: BTreeSet::from([(0, 0), (0, 1), (0, 2), (4, 2), (6, 5)]),
+        definitions: BTreeSet::from([(8, 2), (9, 0)]),
+        structure: BTreeSet::from([(1, 0), (2, 1)]),
+        imports: BTreeSet::from([(9, 1)]),
+        exports: BTreeSet::from([(8, 2)]),
+    }
+}
+
+/// A change of a state.
+type Change = fn(&mut State);
+
+/// The state with the change made in it.
+fn changed(state: &State, change: Change) -> State {
+    let mut state = state.clone();
+    change(&mut state);
+    state
+}
+
+/// Each of the six adds at `hand_made`, its matching remove, and what the add puts into the state.
+const SIX_ADDS: [([u8; 4], [u8; 4], Change); 6] = [
+    ([1, 4, 3, 0], [2, 4, 3, 0], |state| {
+        state.areas.insert(3);
+        state.owners.insert((4, 3));
+    }),
+    ([3, 4, 2, 7], [4, 4, 2, 7], |state| {
+        state.users.insert(7);
+        state.owners.insert((7, 2));
+    }),
+    ([5, 0, 0, 2], [6, 0, 0, 2], |state| _ = state.structure.insert((0, 2))),
+    ([7, 4, 2, 3], [8, 4, 2, 3], |state| {
+        state.objects.insert(3);
+        state.definitions.insert((3, 2));
+    }),
+    ([9, 0, 2, 9], [10, 0, 2, 9], |state| _ = state.imports.insert((9, 2))),
+    ([11, 0, 1, 8], [12, 0, 1, 8], |state| _ = state.exports.insert((8, 1))),
+];
+
+/// Document 02, point 7: "This covers all six adds."
+#[test]
+fn point_7_each_of_the_six_adds() {
+    let earlier = hand_made();
+    assert!(earlier.is_sound());
+    for (add, remove, change) in SIX_ADDS {
+        assert_eq!(taking_back(&earlier, add, remove), changed(&earlier, change));
+    }
+}
+
+/// Document 02, point 7: "the matching remove from the same activator": of the row "1 / 2", "3 / 4" and so on, with the same three bytes.
+#[test]
+fn point_7_matching_remove_of_every_code() {
+    let rows = BTreeMap::from([(1, 2), (3, 4), (5, 6), (7, 8), (9, 10), (11, 12)]);
+    for code in 0..=u8::MAX {
+        for [activator, a, b] in [[0, 0, 0], [4, 31, 0], [0, 1, 63], [200, 100, 50]] {
+            let remove = rows.get(&code).map(|&remove| [remove, activator, a, b]);
+            assert_eq!(matching_remove([code, activator, a, b]), remove);
+        }
+    }
+}
+
+/// Document 02, point 7: "always accepted", whatever the number of the user, the area or the object.
+#[test]
+fn point_7_every_user_area_and_object() {
+    let f = State::founding();
+    for number in 1..32 {
+        let owned = taking_back(&f, [3, 0, 0, number], [4, 0, 0, number]);
+        assert_eq!(owned.users, BTreeSet::from([0, number]));
+        let listed = taking_back(&f, [1, 0, number, 0], [2, 0, number, 0]);
+        assert_eq!(listed.areas, BTreeSet::from([0, number]));
+    }
+    for object in 0..64 {
+        let defined = taking_back(&f, [7, 0, 0, object], [8, 0, 0, object]);
+        assert_eq!(defined.definitions, BTreeSet::from([(object, 0)]));
+    }
+}
+
+/// Document 02, point 7: "It includes a user who was listed only by that add." One who owned another area stays listed.
+#[test]
+fn point_7_user_listed_by_the_add_or_before_it() {
+    let f = State::founding();
+    let listed = taking_back(&f, [3, 0, 0, 4], [4, 0, 0, 4]);
+    assert_eq!(
+        (listed.users, listed.owners),
+        (BTreeSet::from([0, 4]), BTreeSet::from([(0, 0), (4, 0)]))
+    );
+    let taken = from_f(&[[3, 0, 0, 4], [4, 0, 0, 4]]);
+    assert_eq!((taken.users, taken.owners), (BTreeSet::from([0]), BTreeSet::from([(0, 0)])));
+    refused(&[[3, 0, 0, 4], [4, 0, 0, 4]], [1, 4, 1, 0], 3); // user 4 is unlisted
+    let of_area_1 = [[1, 0, 1, 0], [3, 0, 1, 4]];
+    let of_both = taking_back(&from_f(&of_area_1), [3, 0, 0, 4], [4, 0, 0, 4]);
+    assert_eq!(of_both.owners, BTreeSet::from([(0, 0), (0, 1), (4, 0), (4, 1)]));
+    let taken = from_f(&and(of_area_1.to_vec(), &[[3, 0, 0, 4], [4, 0, 0, 4]]));
+    assert_eq!(
+        (taken.users, taken.owners),
+        (BTreeSet::from([0, 4]), BTreeSet::from([(0, 0), (0, 1), (4, 1)]))
+    );
+}
+
+/// "Codes 2 and 4 unlist a user who owns no area afterwards": whoever lists an area owns another. "Freed numbers may be listed again."
+#[test]
+fn point_7_new_area() {
+    let earlier = from_f(&[[3, 0, 0, 4]]);
+    for (add, remove, owners) in [
+        ([1, 4, 31, 0], [2, 4, 31, 0], [(0, 0), (4, 0), (4, 31)]),
+        ([1, 0, 31, 0], [2, 0, 31, 0], [(0, 0), (0, 31), (4, 0)]),
+    ] {
+        let listed = taking_back(&earlier, add, remove);
+        assert_eq!((listed.areas, listed.owners), (BTreeSet::from([0, 31]), BTreeSet::from(owners)));
+    }
+    // user 4 is still listed, and area 31 may be listed by the other owner
+    let taken = [[3, 0, 0, 4], [1, 4, 31, 0], [2, 4, 31, 0]];
+    assert_eq!(from_f(&taken).users, BTreeSet::from([0, 4]));
+    assert_eq!(accepted(&taken, [1, 0, 31, 0]).owners, BTreeSet::from([(0, 0), (0, 31), (4, 0)]));
+}
+
+/// "Cycles of structure pairs are allowed, also an area in itself". Code 5 asks for both areas, code 6 for either.
+#[test]
+fn point_7_area_in_itself_and_two_in_each_other() {
+    let earlier = hand_made();
+    for (add, remove, pair) in [
+        ([5, 0, 0, 0], [6, 0, 0, 0], (0, 0)),
+        ([5, 4, 2, 2], [6, 4, 2, 2], (2, 2)),
+        ([5, 6, 5, 5], [6, 6, 5, 5], (5, 5)),
+        ([5, 0, 0, 1], [6, 0, 0, 1], (0, 1)),
+        ([5, 0, 1, 2], [6, 0, 1, 2], (1, 2)),
+    ] {
+        let with_it = taking_back(&earlier, add, remove).structure;
+        assert_eq!(with_it, BTreeSet::from([(1, 0), (2, 1), pair]));
+    }
+}
+
+/// The answers for the area and object 9 in front of the add, which comes after the accepted list, and between it and its remove.
+fn answers(list: &[[u8; 4]], add: [u8; 4], remove: [u8; 4], area: u32) -> (Option<u8>, Option<u8>) {
+    let between = taking_back(&from_f(list), add, remove);
+    (answer(list, area), access(&between, area, 9).expect("an answer"))
+}
+
+/// Reading 14: it does not matter who gained access by the add.
+#[test]
+fn reading_14_access_of_others_by_the_add() {
+    let in_area_1 = vec![[1, 0, 1, 0], [5, 0, 0, 1], [7, 0, 0, 9]]; // area 0, the definer, in area 1
+    let far = and(row_by_exports(8), &[[5, 0, 8, 0]]); // area 8, at 8 steps, exports and lies in area 0 too
+    for (list, add, remove, area, steps) in [
+        (&in_area_1, [11, 0, 0, 9], [12, 0, 0, 9], 1, 1),
+        (&row_by_exports(6), [11, 0, 7, 9], [12, 0, 7, 9], 8, 8),
+        (&far, [9, 0, 8, 9], [10, 0, 8, 9], 9, 2),
+        (&row_by_exports(8), [5, 0, 0, 2], [6, 0, 0, 2], 9, 8),
+        (&lent_row(), [5, 0, 2, 0], [6, 0, 2, 0], 9, 8),
+    ] {
+        assert_eq!(answers(list, add, remove, area), (None, Some(steps)));
+    }
+}
+
+/// Reading 14: it does not matter how long the chain is, or whether the area's access rests on the very entry. Area 8, at 8 steps.
+#[test]
+fn reading_14_entry_at_8_steps() {
+    for (list, add, remove, earlier) in [
+        (row_by_imports(7), [9, 0, 8, 9], [10, 0, 8, 9], None),
+        (row_by_exports(7), [9, 0, 8, 9], [10, 0, 8, 9], Some(8)),
+        (row_by_imports(8), [11, 0, 8, 9], [12, 0, 8, 9], Some(8)),
+        (row_by_exports(7), [11, 0, 8, 9], [12, 0, 8, 9], Some(8)),
+    ] {
+        assert_eq!(answers(&list, add, remove, 8), (earlier, Some(8)));
+        assert_eq!(answers(&list, add, remove, 9), (None, None));
+    }
+}
+
+/// "Cycles of structure pairs are allowed": by the export of area 2 object 9 goes round, through the definer or past it.
+#[test]
+fn reading_14_export_that_closes_a_ring() {
+    for back_to in [0, 1] {
+        let open = and(row_by_exports(1), &[[5, 0, 2, back_to]]);
+        let ring = taking_back(&from_f(&open), [11, 0, 2, 9], [12, 0, 2, 9]);
+        assert_eq!(ring.exports, BTreeSet::from([(9, 0), (9, 1), (9, 2)]));
+        for (area, steps) in [(0, 0), (1, 1), (2, 2)] {
+            assert_eq!(answer(&open, area), Some(steps));
+            assert_eq!(access(&ring, area, 9), Ok(Some(steps)));
+        }
+    }
+}
+
+/// Document 02, point 7, through the program: 0 for each line, and at the end the counts of before.
+#[test]
+fn point_7_program_prints_0_for_both() {
+    let of_f = b"1 0 1 0\n2 0 1 0\n3 0 0 4\n4 0 0 4\n5 0 0 0\n6 0 0 0\n7 0 0 9\n8 0 0 9\n";
+    assert_eq!(transcript(of_f), b"1 0\n2 0\n3 0\n4 0\n5 0\n6 0\n7 0\n8 0\nstate 1 1 0 1 0 0 0\n");
+    let lending = b"1 0 1 0\n5 0 1 0\n7 0 0 9\n9 0 1 9\n10 0 1 9\n11 0 0 9\n12 0 0 9\n";
+    assert_eq!(transcript(lending), b"1 0\n2 0\n3 0\n4 0\n5 0\n6 0\n7 0\nstate 1 2 1 2 1 0 0\n");
+}
+
+/// "The state after a refusal is the state given": between the add and its remove the engineers ask, and others are refused.
+#[test]
+fn reading_14_questions_and_refused_instructions_in_between() {
+    let earlier = hand_made();
+    for (add, remove, _) in SIX_ADDS {
+        let between = taking_back(&earlier, add, remove);
+        for (instruction, refusal) in [
+            (add, 6),
+            ([13, 0, 0, 0], 1),
+            ([1, 9, 1, 0], 3),
+            ([4, 6, 5, 6], 8),
+            ([8, 0, 0, 9], 11),
+        ] {
+            assert_eq!(step(&between, instruction), Err(refusal));
+            let looked_at = run(&between, &[instruction]);
+            assert_eq!(access(&looked_at, 1, 9), Ok(Some(1)));
+            assert_eq!(gives(&looked_at, remove), (0, earlier.clone()));
+        }
+    }
+}
+
+/// Reading 14: a refused add. Its matching remove takes out what was there before.
+#[test]
+fn reading_14_refused_add() {
+    let earlier = from_f(&[[7, 0, 0, 9]]);
+    refused(&[[7, 0, 0, 9]], [7, 0, 0, 9], 6);
+    let (number, after) = gives(&earlier, [8, 0, 0, 9]);
+    assert_eq!((number, &after), (0, &State::founding()));
+    let judged = taken_back(&earlier, [7, 0, 0, 9], number, &after);
+    assert_eq!(judged, Err("the objects were {9} and are {}".to_string()));
+}
+
+/// Reading 14: a remove with its add behind it. User 0 no longer owns area 0, and can't make himself its owner.
+#[test]
+fn reading_14_remove_with_its_add_behind_it() {
+    let list = [[1, 0, 1, 0], [3, 0, 0, 4]];
+    refused(&and(list.to_vec(), &[[4, 0, 0, 0]]), [3, 0, 0, 0], 5);
+    // a remove is no add for the judge, nor is any other code
+    let earlier = from_f(&list);
+    for code in (0..=u8::MAX).filter(|code| ![1, 3, 5, 7, 9, 11].contains(code)) {
+        let judged = taken_back(&earlier, [code, 0, 0, 0], 0, &earlier);
+        assert_eq!(judged, Err(format!("[{code}, 0, 0, 0] is no add")));
+    }
+}
+
+/// Reading 14: another activator, who is not listed, does not own the area, or does not own the new area.
+#[test]
+fn reading_14_another_activator() {
+    refused(&[[7, 0, 0, 9]], [8, 4, 0, 9], 3);
+    refused(&[[1, 0, 1, 0], [3, 0, 1, 4], [7, 0, 0, 9]], [8, 4, 0, 9], 5);
+    refused(&[[3, 0, 0, 4], [1, 0, 1, 0]], [2, 4, 1, 0], 5);
+    let (number, after) = gives(&from_f(&[[7, 0, 0, 9]]), [8, 4, 0, 9]);
+    let judged = taken_back(&State::founding(), [7, 0, 0, 9], number, &after);
+    assert_eq!(judged, Err("the remove behind [7, 0, 0, 9] was refused with 3".to_string()));
+}
+
+/// Reading 14: another instruction, accepted between the add and its remove. The remove is refused, or leaves what the other did.
+#[test]
+fn reading_14_another_accepted_instruction_in_between() {
+    let inner: &[[u8; 4]] = &[[1, 0, 1, 0], [7, 0, 0, 9], [5, 0, 1, 0]]; // area 1 in area 0, which defines 9
+    let outer: &[[u8; 4]] = &[[1, 0, 1, 0], [7, 0, 0, 9], [5, 0, 0, 1]]; // area 0 in area 1
+    for (list, add, other, remove, refusal) in [
+        (&[][..], [1, 0, 1, 0], [7, 0, 1, 9], [2, 0, 1, 0], 9),
+        (&[], [3, 0, 0, 4], [4, 4, 0, 0], [4, 0, 0, 4], 3),
+        (&inner[..2], [5, 0, 1, 0], [9, 0, 1, 9], [6, 0, 1, 0], 11),
+        (&[], [7, 0, 0, 9], [11, 0, 0, 9], [8, 0, 0, 9], 11),
+        (inner, [9, 0, 1, 9], [11, 0, 1, 9], [10, 0, 1, 9], 11),
+        (outer, [11, 0, 0, 9], [11, 0, 1, 9], [12, 0, 0, 9], 11),
+    ] {
+        taking_back(&from_f(list), add, remove);
+        refused(&[list, &[add, other]].concat(), remove, refusal);
+    }
+    let (number, after) = gives(&from_f(&[[1, 0, 1, 0], [1, 0, 2, 0]]), [2, 0, 1, 0]);
+    let judged = taken_back(&State::founding(), [1, 0, 1, 0], number, &after);
+    assert_eq!(judged, Err("the areas were {0} and are {0, 2}".to_string()));
+}
+
+/// For each list and relation of `hand_made`, by the judge's word for it: a number or a pair more, and in the next row one less.
+const TRACES: [(&str, Change); 16] = [
+    ("users", |state| _ = state.users.insert(7)),
+    ("users", |state| _ = state.users.remove(&6)),
+    ("areas", |state| _ = state.areas.insert(3)),
+    ("areas", |state| _ = state.areas.remove(&5)),
+    ("objects", |state| _ = state.objects.insert(3)),
+    ("objects", |state| _ = state.objects.remove(&8)),
+    ("owner pairs", |state| _ = state.owners.insert((7, 2))),
+    ("owner pairs", |state| _ = state.owners.remove(&(4, 2))),
+    ("definition pairs", |state| _ = state.definitions.insert((3, 2))),
+    ("definition pairs", |state| _ = state.definitions.remove(&(8, 2))),
+    ("structure pairs", |state| _ = state.structure.insert((0, 2))),
+    ("structure pairs", |state| _ = state.structure.remove(&(2, 1))),
+    ("import pairs", |state| _ = state.imports.insert((9, 2))),
+    ("import pairs", |state| _ = state.imports.remove(&(9, 1))),
+    ("export pairs", |state| _ = state.exports.insert((8, 1))),
+    ("export pairs", |state| _ = state.exports.remove(&(8, 2))),
+];
+
+/// Document 02, point 7: "gives the earlier state in every field".
+#[test]
+fn point_7_judge_finds_a_trace_in_every_field() {
+    let earlier = hand_made();
+    for rows in TRACES.chunks(2) {
+        let (field, more, less) = (rows[0].0, rows[0].1, rows[1].1);
+        let another = changed(&changed(&earlier, more), less); // one in place of the other
+        for after in [changed(&earlier, more), changed(&earlier, less), another] {
+            assert_ne!(after, earlier);
+            for (add, _, _) in SIX_ADDS {
+                let trace = taken_back(&earlier, add, 0, &after).expect_err("a trace");
+                assert!(trace.starts_with(&format!("the {field} were {{")), "{trace}");
+            }
+        }
+    }
+}
+
+/// Document 02, point 7: "is always accepted": no number but 0, whatever the state beside it.
+#[test]
+fn point_7_judge_finds_every_refusal() {
+    let earlier = hand_made();
+    for (add, _, change) in SIX_ADDS {
+        let between = changed(&earlier, change);
+        for number in 1..=u8::MAX {
+            let judged = Err(format!("the remove behind {add:?} was refused with {number}"));
+            assert_eq!(taken_back(&earlier, add, number, &earlier), judged);
+            assert_eq!(taken_back(&earlier, add, number, &between), judged);
+        }
+    }
+}
+
+/// What the judge says of a user, a pair and an area that are left.
+#[test]
+fn point_7_judge_says_what_is_different() {
+    let f = State::founding();
+    let left: [(Change, &str, &str, &str); 3] = [
+        (|state| _ = state.users.insert(4), "users", "{0}", "{0, 4}"),
+        (|state| _ = state.exports.insert((9, 0)), "export pairs", "{}", "{(9, 0)}"),
+        (|state| _ = state.areas.insert(1), "areas", "{0}", "{0, 1}"),
+    ];
+    for (change, field, were, are) in left {
+        let judged = taken_back(&f, [3, 0, 0, 4], 0, &changed(&f, change));
+        assert_eq!(judged, Err(format!("the {field} were {were} and are {are}")));
+    }
+}
+
+/// By hand, with d, r and the numbers of `small_states_are_1620`. The 3 sets of owners of one area have 4 owners in all, so over the 9
+/// sets of two areas each has 12. Beside the owners there are 2 * 2 * 3 = 12 choices with one area, and 16 + 160 = 176 with two.
+/// Code 1: the second area, 4 * 12 = 48.
+/// Code 3: the other user, where an area has one owner, 2 * 12 + 2 * 6 * 176 = 2,136. In 2 * 12 + 2 * 2 * 176 = 728 of these one user
+/// owns all, and the other is listed by the add.
+/// Code 5: with one area 4 * 6. With two, (a, a) is missing in 88 of 176, 2 * 12 * 88. Another pair is missing in
+/// 8 + 4 * (2 + 6) + 4 * (2 + 5) = 68, and over the 9 sets the two areas have 8 common owners, 2 * 8 * 68. Together 3,224.
+/// Code 7: 2 * 2 choices have no object with one area, and 16 with two, 4 * 4 + 2 * 12 * 16 = 400.
+/// Codes 9 and 11 by the pairs (d, r) and (r, d) again: neither, the first alone, the second alone, both.
+/// Code 9: by r only, 2 * 12 * 4 * (0 + 2 + 2 + 3) = 672.
+/// Code 11: with one area 4 * 4; by d 2 * 12 * 4 * (1 + 1 + 3 + 3), by r 2 * 12 * 4 * (0 + 2 + 2 + 3). Together 1,456.
+#[test]
+fn point_7_at_every_small_state() {
+    let mut taken: BTreeMap<u8, u32> = BTreeMap::new();
+    let mut users_by_the_add = 0;
+    for state in small_states() {
+        for &add in &small_instructions() {
+            if let (Some(remove), Ok(next)) = (matching_remove(add), step(&state, add)) {
+                assert_eq!(taking_back(&state, add, remove), next);
+                *taken.entry(add[0]).or_default() += 1;
+                users_by_the_add += next.users.len() - state.users.len();
+            }
+        }
+    }
+    let by_hand = BTreeMap::from([(1, 48), (3, 2136), (5, 3224), (7, 400), (9, 672), (11, 1456)]);
+    assert_eq!(taken, by_hand);
+    assert_eq!(users_by_the_add, 728);
+}
+
+/// Document 02, point 7: "always accepted", after each accepted add of lists in disorder, on a row at whose end areas are 7, 8 and 9
+/// steps off, and on four areas of three users.
+#[test]
+fn point_7_after_lists_in_disorder() {
+    type Pick = fn(&State, [u8; 4]) -> [u8; 4];
+    let starts: [(&[[u8; 4]], Pick); 2] = [(&lent_row(), |_, four| of_another(u8::MAX, four)), (FOUR_AREAS, often_own_import)];
+    let mut bytes = disorder();
+    let mut taken = BTreeSet::new();
+    for (list, pick) in starts.repeat(20) {
+        let mut state = from_f(list);
+        for four in bytes.by_ref().take(100) {
+            let instruction = pick(&state, four);
+            let (number, next) = gives(&state, instruction);
+            if let (Some(remove), 0) = (matching_remove(instruction), number) {
+                assert_eq!(taking_back(&state, instruction, remove), next);
+                taken.insert(instruction[0]);
+            }
+            state = next;
+        }
+    }
+    assert_eq!(taken, BTreeSet::from([1, 3, 5, 7, 9, 11]));
+}
+
 // The small states
 
 /// By hand. One area (two choices), 3 sets of owners, 2 structures: without the object 1, with it 2 exports and no import: 2 * 3 * 2 *
@@ -1988,17 +2403,20 @@ fn small_states_go_round_through_record_and_file() {
     }
 }
 
+/// Every instruction of the codes 0 to 13 over users 0 and 1, areas 0 and 1, object 0.
+fn small_instructions() -> BTreeSet<[u8; 4]> {
+    let of_code = |code: u8| (0..8).map(move |rest| [code, rest / 4, rest / 2 % 2, if (7..=12).contains(&code) { 0 } else { rest % 2 }]);
+    (0..=13).flat_map(of_code).collect()
+}
+
 /// The state after an accepted instruction is sound, and is closed under the numbers that it uses.
 #[test]
 fn small_states_step_to_small_states() {
-    let states = small_states();
+    let (states, instructions) = (small_states(), small_instructions());
     for state in states.iter().step_by(7) {
-        for code in 0..=13 {
-            for rest in 0..8 {
-                let instruction = [code, rest / 4, rest / 2 % 2, if (7..=12).contains(&code) { 0 } else { rest % 2 }];
-                if let Ok(next) = step(state, instruction) {
-                    assert!(states.contains(&next), "{instruction:?} at {state:?}");
-                }
+        for &instruction in &instructions {
+            if let Ok(next) = step(state, instruction) {
+                assert!(states.contains(&next), "{instruction:?} at {state:?}");
             }
         }
     }

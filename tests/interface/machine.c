@@ -1,5 +1,5 @@
 /* The session of document 01, the examples of its table of refusals, the access question, chains of 8 steps
- * and of 9, and imports by the area that defines. */
+ * and of 9, imports by the area that defines, and adds that are taken back. */
 #include "tests.h"
 
 #include <string.h>
@@ -294,6 +294,203 @@ static void test_own_imports(void)
     ask_edges(&site, 1);
 }
 
+/*
+ * Areas 0 to 15, and area 0 lies in each of the others. It defines objects 0 to 31 and exports them, so the
+ * others have access. Area 1 imports object 0, and area 2 exports it. Area 1 defines object 40, which nobody
+ * exports. User 0 owns all areas, user 4 areas 1 and 2.
+ */
+static void make_star(struct guarded *site)
+{
+    static const uint8_t last[5][4] = {
+        {3, 0, 1, 4}, {3, 0, 2, 4}, {9, 0, 1, 0}, {11, 0, 2, 0}, {7, 0, 1, 40},
+    };
+    uint8_t area, object;
+    size_t i;
+
+    found(site);
+    for (object = 0; object < 32; object++) {
+        const uint8_t define[4] = {PANELRIGHTS_DEFINE, 0, 0, object};
+        const uint8_t add_export[4] = {PANELRIGHTS_ADD_EXPORT, 0, 0, object};
+
+        step(site, define, PANELRIGHTS_OK);
+        step(site, add_export, PANELRIGHTS_OK);
+    }
+    for (area = 1; area < 16; area++) {
+        const uint8_t list_area[4] = {PANELRIGHTS_LIST_AREA, 0, area, 0};
+        const uint8_t put_into_it[4] = {PANELRIGHTS_ADD_STRUCTURE, 0, 0, area};
+
+        step(site, list_area, PANELRIGHTS_OK);
+        step(site, put_into_it, PANELRIGHTS_OK);
+    }
+    for (i = 0; i < sizeof last / sizeof *last; i++)
+        step(site, last[i], PANELRIGHTS_OK);
+}
+
+/*
+ * The six adds, each with how many numbers b may be, and how many are accepted over all a and b: in the
+ * founding state and in the row from user 0, in the star from user 0 and from user 4. In the star
+ *   code 1: 16 areas are not listed;
+ *   code 3: 16 * 32 - 18 owner pairs are not there, and 2 * 32 - 4 of areas 1 and 2;
+ *   code 5: 16 * 16 - 15 structure pairs are not there, and all four of areas 1 and 2;
+ *   code 7: 31 objects are not listed, for 16 areas and for two;
+ *   code 9: areas 1 to 15 may import objects 0 to 31, but for the one import that is there: 15 * 32 - 1, and
+ *   2 * 32 - 1 for areas 1 and 2. Area 0, which lies in area 1, may import object 40;
+ *   code 11: as many exports, and area 1 may export object 40.
+ * In the row areas 1 to 8 may import, and whoever may export does so already.
+ */
+enum { FOUNDING, ROW, STAR, STAR_BY_4, SITES };
+static const struct {
+    uint8_t code, numbers;
+    unsigned accepted[SITES];
+} adds[6] = {
+    {PANELRIGHTS_LIST_AREA, 1, {31, 22, 16, 16}},
+    {PANELRIGHTS_ADD_OWNER, PANELRIGHTS_USERS, {31, 310, 494, 60}},
+    {PANELRIGHTS_ADD_STRUCTURE, PANELRIGHTS_AREAS, {1, 91, 241, 4}},
+    {PANELRIGHTS_DEFINE, PANELRIGHTS_OBJECTS, {64, 630, 496, 62}},
+    {PANELRIGHTS_ADD_IMPORT, PANELRIGHTS_OBJECTS, {0, 8, 480, 63}},
+    {PANELRIGHTS_ADD_EXPORT, PANELRIGHTS_OBJECTS, {0, 0, 480, 64}},
+};
+
+/* The matching remove, by this user. */
+static void take_back(struct guarded *site, const uint8_t add[4], uint8_t activator, uint8_t refusal)
+{
+    const uint8_t matching[4] = {add[0] + 1, activator, add[2], add[3]};
+
+    step(site, matching, refusal);
+}
+
+/* 1 if the add is accepted: then it changes the record, and its remove gives every byte back. Else 0. */
+static unsigned try_add(struct guarded *site, const uint8_t add[4])
+{
+    const struct guarded before = *site;
+    uint8_t refusal = panelrights_step(site->state, sizeof site->state, add[0], add[1], add[2], add[3]);
+
+    if (refusal == PANELRIGHTS_OK) {
+        CHECK(memcmp(site->state, before.state, sizeof before.state) != 0);
+        take_back(site, add, add[1], PANELRIGHTS_OK);
+    }
+    CHECK(memcmp(site, &before, sizeof before) == 0);
+    return refusal == PANELRIGHTS_OK;
+}
+
+static void try_every_add(struct guarded *site, uint8_t activator, size_t column)
+{
+    uint8_t a, b;
+    size_t i;
+
+    for (i = 0; i < sizeof adds / sizeof *adds; i++) {
+        unsigned accepted = 0;
+
+        for (a = 0; a < PANELRIGHTS_AREAS; a++)
+            for (b = 0; b < adds[i].numbers; b++) {
+                const uint8_t add[4] = {adds[i].code, activator, a, b};
+
+                accepted += try_add(site, add);
+            }
+        CHECK_NUMBER(accepted, adds[i].accepted[column]);
+    }
+}
+
+static void test_every_add(void)
+{
+    struct guarded site;
+
+    found(&site);
+    try_every_add(&site, 0, FOUNDING);
+    make_row(&site);
+    try_every_add(&site, 0, ROW);
+    make_star(&site);
+    try_every_add(&site, 0, STAR);
+    try_every_add(&site, 4, STAR_BY_4);
+}
+
+/* An add of each code behind the session, where user 4 owns area 0 alone and area 2 is a step from area 1. */
+static const uint8_t tried[6][4] = {
+    {1, 0, 3, 0}, {3, 0, 1, 5}, {5, 0, 2, 1}, {7, 0, 2, 10}, {9, 0, 2, 9}, {11, 0, 2, 9},
+};
+
+/* What is refused behind any of them. */
+static const struct line between[] = {
+    {{13, 0, 0, 0}, 1}, {{1, 32, 3, 0}, 2}, {{8, 0, 0, 8}, 4},  {{4, 0, 1, 4}, 7},  {{9, 0, 1, 9}, 15},
+    {{4, 0, 2, 0}, 8},  {{2, 0, 1, 0}, 9},  {{9, 0, 0, 9}, 10}, {{8, 0, 1, 9}, 11},
+};
+
+static void look(const struct guarded *site)
+{
+    CHECK_NUMBER(ask(site, 0, 9), PANELRIGHTS_NO_ACCESS);
+    CHECK_NUMBER(ask(site, 1, 9), 0);
+    CHECK_NUMBER(ask(site, 2, 9), 1);
+    CHECK_NUMBER(ask(site, 0, 8), PANELRIGHTS_ACCESS_REFUSED + PANELRIGHTS_NOT_LISTED);
+    CHECK_NUMBER(ask(site, 32, 9), PANELRIGHTS_ACCESS_REFUSED + PANELRIGHTS_OUT_OF_RANGE);
+}
+
+/* Refused instructions and questions between an add and its remove. Users 31 and 4 may not take it back. */
+static void test_between(void)
+{
+    struct guarded site, before;
+    size_t i, j;
+
+    run_session(&site, 12);
+    before = site;
+    for (i = 0; i < sizeof tried / sizeof *tried; i++) {
+        step(&site, tried[i], PANELRIGHTS_OK);
+        for (j = 0; j < sizeof between / sizeof *between; j++)
+            step(&site, between[j].instruction, between[j].answer);
+        step(&site, tried[i], PANELRIGHTS_ALREADY_THERE);
+        take_back(&site, tried[i], 31, PANELRIGHTS_ACTIVATOR_UNLISTED);
+        take_back(&site, tried[i], 4, PANELRIGHTS_NOT_OWNER);
+        look(&site);
+        take_back(&site, tried[i], 0, PANELRIGHTS_OK);
+        CHECK(memcmp(&site, &before, sizeof site) == 0);
+    }
+}
+
+/* All six on one another, and the last is taken back first: each time the record is that before its add. */
+static void test_last_first(void)
+{
+    struct guarded site, before[6];
+    size_t i;
+
+    run_session(&site, 12);
+    for (i = 0; i < 6; i++) {
+        before[i] = site;
+        step(&site, tried[i], PANELRIGHTS_OK);
+    }
+    while (i-- > 0) {
+        take_back(&site, tried[i], 0, PANELRIGHTS_OK);
+        CHECK(memcmp(&site, &before[i], sizeof site) == 0);
+    }
+}
+
+/*
+ * User 5 is listed only by the add, and user 4 was before. Last a refused add: its remove takes out what was
+ * there before.
+ */
+static void test_owners_back(void)
+{
+    static const uint8_t add_5[4] = {PANELRIGHTS_ADD_OWNER, 0, 1, 5};
+    static const uint8_t add_4[4] = {PANELRIGHTS_ADD_OWNER, 0, 1, 4};
+    struct guarded site;
+
+    run_session(&site, 12);
+    CHECK(!PANELRIGHTS_HAS_USER(site.state, 5));
+    step(&site, add_5, PANELRIGHTS_OK);
+    CHECK(PANELRIGHTS_HAS_USER(site.state, 5) && PANELRIGHTS_OWNS(site.state, 5, 1));
+    take_back(&site, add_5, 0, PANELRIGHTS_OK);
+    CHECK(!PANELRIGHTS_HAS_USER(site.state, 5) && !PANELRIGHTS_OWNS(site.state, 5, 1));
+    take_back(&site, add_5, 0, PANELRIGHTS_NOT_LISTED);
+
+    step(&site, add_4, PANELRIGHTS_OK);
+    take_back(&site, add_4, 0, PANELRIGHTS_OK);
+    CHECK(PANELRIGHTS_HAS_USER(site.state, 4) && PANELRIGHTS_OWNS(site.state, 4, 0));
+    take_back(&site, add_4, 0, PANELRIGHTS_NOT_THERE);
+
+    step(&site, add_5, PANELRIGHTS_OK);
+    step(&site, add_5, PANELRIGHTS_ALREADY_THERE);
+    take_back(&site, add_5, 0, PANELRIGHTS_OK);
+    CHECK(!PANELRIGHTS_HAS_USER(site.state, 5));
+}
+
 void test_machine(void)
 {
     test_session();
@@ -301,4 +498,8 @@ void test_machine(void)
     test_access();
     test_most_steps();
     test_own_imports();
+    test_every_add();
+    test_between();
+    test_last_first();
+    test_owners_back();
 }

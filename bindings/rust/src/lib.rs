@@ -23,7 +23,7 @@
 //! site.step(Kind::AddImport { area: 0, object: 9 }.by(0))?;
 //! assert_eq!(site.access(0, 9)?, Some(2));
 //!
-//! // As long as panel 0 borrows the table, the loan can't be taken back.
+//! // As long as panel 0 borrows the table, panel 1 can't stop lending it.
 //! let refusal = site.step(Kind::RemoveExport { area: 1, object: 9 }.by(0)).unwrap_err();
 //! assert_eq!(refusal, Refusal::WouldLoseAccess);
 //! println!("{refusal}");

@@ -110,6 +110,25 @@ impl State {
     /// assert_eq!(site.step(Kind::AddOwner { area: 0, user: 4 }.by(0)), Ok(()));
     /// assert_eq!(site.step([3, 0, 0, 4]), Err(Refusal::AlreadyThere));
     /// ```
+    ///
+    /// An add that gave `Ok` is taken back by the matching remove (`RemoveImport` for `AddImport`, and so on; as bytes
+    /// the next code) by the same activator with the same numbers. While the state is as the add left it, the remove
+    /// gives `Ok`, and the state then equals the one before the add; a user who was listed only by that add is unlisted
+    /// again. Questions and refused instructions change nothing. Of several adds the last is taken back first. Do not
+    /// take back an add that was refused: its remove might take out what was there before.
+    ///
+    /// ```
+    /// # use panelrights::{Kind, Refusal, State};
+    /// # fn main() -> Result<(), Refusal> {
+    /// let mut site = State::founding();
+    /// let before = site.clone();
+    /// site.step(Kind::AddOwner { area: 0, user: 4 }.by(0))?;
+    /// assert!(site.is_listed_user(4) && site.owns(4, 0));
+    /// site.step(Kind::RemoveOwner { area: 0, user: 4 }.by(0))?;
+    /// assert_eq!(site, before);
+    /// # Ok(())
+    /// # }
+    /// ```
     pub fn step(&mut self, instruction: impl Into<Instruction>) -> Result<(), Refusal> {
         let Instruction { code, activator, a, b } = instruction.into();
         let record = self.record.as_mut_slice();

@@ -1,5 +1,5 @@
-//! The session of document 01, its examples of refused instructions, chains of 8 steps and of 9, and imports by the
-//! area that defines.
+//! The session of document 01, its examples of refused instructions, chains of 8 steps and of 9, imports by the area
+//! that defines, and adds that are taken back.
 
 use panelrights::{Instruction, Kind, Refusal, State};
 
@@ -40,6 +40,11 @@ const SESSION: [([u8; 4], u8); 12] = [
     ([10, 4, 0, 9], 0),
     ([6, 4, 0, 2], 0),
 ];
+
+/// The instructions of the session's first lines, without those that are refused.
+fn accepted(lines: usize) -> Vec<[u8; 4]> {
+    SESSION[..lines].iter().filter(|(_, number)| *number == 0).map(|(instruction, _)| *instruction).collect()
+}
 
 #[test]
 fn session() {
@@ -113,8 +118,7 @@ fn refusals_of_an_instruction() {
     refused(&[], [4, 0, 0, 0], 8);
     refused(&[[1, 0, 1, 0], [7, 0, 1, 9]], [2, 0, 1, 0], 9);
     refused(&[[1, 0, 1, 0], [7, 0, 0, 9]], [9, 0, 1, 9], 10);
-    let lent = SESSION[..8].iter().filter(|(_, number)| *number == 0).map(|(instruction, _)| *instruction);
-    refused(&lent.collect::<Vec<_>>(), [12, 0, 1, 9], 11);
+    refused(&accepted(8), [12, 0, 1, 9], 11);
     refused(&[[7, 0, 0, 9]], [9, 0, 0, 9], 15);
 }
 
@@ -256,6 +260,141 @@ fn records_with_an_entry_of_the_area_that_defines() {
         assert_eq!(written(4224), Err(Refusal::UnsoundState), "{area} imports {object}");
         assert!(written(6272).unwrap().exports(object, area), "{area} exports {object}");
     }
+}
+
+/// The session up to line 10: areas 0 and 1 lie in area 2; area 1 defines object 9 and exports it, area 0 imports it;
+/// user 0 owns all three, and user 4 area 0. Besides, area 2 defines object 11.
+fn site() -> State {
+    let mut site = after(&accepted(10));
+    obey(&mut site, &[[7, 0, 2, 11]]);
+    site
+}
+
+/// Each add with the matching remove. The site accepts the adds from user 0; none of their areas is user 4's, and user
+/// 5 is listed only by the second.
+const ADDS: [(Kind, Kind); 6] = [
+    (Kind::ListArea { area: 3 }, Kind::UnlistArea { area: 3 }),
+    (Kind::AddOwner { area: 1, user: 5 }, Kind::RemoveOwner { area: 1, user: 5 }),
+    (Kind::AddStructure { inner: 2, outer: 1 }, Kind::RemoveStructure { inner: 2, outer: 1 }),
+    (Kind::Define { area: 2, object: 10 }, Kind::RemoveDefinition { area: 2, object: 10 }),
+    (Kind::AddImport { area: 2, object: 9 }, Kind::RemoveImport { area: 2, object: 9 }),
+    (Kind::AddExport { area: 2, object: 9 }, Kind::RemoveExport { area: 2, object: 9 }),
+];
+
+/// The add must be accepted and change the state, and the remove by the same activator must give the state of before.
+fn taken_back(site: &mut State, activator: u8, add: Kind, remove: Kind) {
+    let before = site.clone();
+    assert_eq!(site.step(add.by(activator)), Ok(()), "{add:?}");
+    assert_ne!(*site, before, "{add:?}");
+    assert_eq!(site.step(remove.by(activator)), Ok(()), "{remove:?}");
+    assert_eq!(*site, before, "{remove:?}");
+}
+
+#[test]
+fn each_add_is_taken_back() {
+    let mut site = site();
+    for (add, remove) in ADDS {
+        taken_back(&mut site, 0, add, remove);
+    }
+    // All six on one another, and the last is taken back first.
+    let mut before = Vec::new();
+    for (add, _) in ADDS {
+        before.push(site.clone());
+        assert_eq!(site.step(add.by(0)), Ok(()), "{add:?}");
+    }
+    for (_, remove) in ADDS.into_iter().rev() {
+        assert_eq!(site.step(remove.by(0)), Ok(()), "{remove:?}");
+        assert_eq!(Some(&site), before.pop().as_ref(), "{remove:?}");
+    }
+}
+
+/// Every area, owner, object and structure pair that the site does not have yet.
+#[test]
+fn each_number_is_taken_back() {
+    let mut site = site();
+    for area in 3..32 {
+        taken_back(&mut site, 4, Kind::ListArea { area }, Kind::UnlistArea { area });
+    }
+    for (activator, area) in [(4, 0), (0, 0), (0, 1), (0, 2)] {
+        for user in (1..32).filter(|&user| (user, area) != (4, 0)) {
+            taken_back(&mut site, activator, Kind::AddOwner { area, user }, Kind::RemoveOwner { area, user });
+        }
+        for object in (0..64).filter(|object| ![9, 11].contains(object)) {
+            taken_back(&mut site, activator, Kind::Define { area, object }, Kind::RemoveDefinition { area, object });
+        }
+    }
+    for (inner, outer) in [(0, 0), (0, 1), (1, 0), (1, 1), (2, 0), (2, 1), (2, 2)] {
+        taken_back(&mut site, 0, Kind::AddStructure { inner, outer }, Kind::RemoveStructure { inner, outer });
+    }
+}
+
+#[test]
+fn a_user_listed_only_by_that_add() {
+    let mut site = site();
+    let (add, remove) = ADDS[1];
+    assert!(!site.is_listed_user(5));
+    assert_eq!(site.step(add.by(0)), Ok(()));
+    assert!(site.is_listed_user(5) && site.owns(5, 1));
+    assert_eq!(site.step(remove.by(0)), Ok(()));
+    assert!(!site.is_listed_user(5) && !site.owns(5, 1));
+    assert_eq!(site.users().collect::<Vec<_>>(), [0, 4]);
+    assert_eq!(site.step(Kind::ListArea { area: 3 }.by(5)), Err(Refusal::ActivatorUnlisted));
+    assert_eq!(site.step(remove.by(0)), Err(Refusal::NotListed));
+    // User 4 was listed before: he owns area 0, and stays.
+    taken_back(&mut site, 0, Kind::AddOwner { area: 1, user: 4 }, Kind::RemoveOwner { area: 1, user: 4 });
+    assert!(site.is_listed_user(4) && site.owns(4, 0) && !site.owns(4, 1));
+}
+
+/// Refused instructions, other activators among them, and questions between an add and its remove.
+#[test]
+fn refusals_and_questions_in_between() {
+    let mut site = site();
+    let before = site.clone();
+    for (add, remove) in ADDS {
+        assert_eq!(site.step(add.by(0)), Ok(()), "{add:?}");
+        let added = site.clone();
+        assert_eq!(site.step(add.by(0)), Err(Refusal::AlreadyThere), "{add:?}");
+        assert_eq!(site.step(remove.by(31)), Err(Refusal::ActivatorUnlisted), "{remove:?}");
+        assert_eq!(site.step(remove.by(4)), Err(Refusal::NotOwner), "{remove:?}");
+        assert_eq!(site.step(Kind::RemoveDefinition { area: 1, object: 9 }.by(0)), Err(Refusal::WouldLoseAccess));
+        assert_eq!((site.access(2, 9), site.access(0, 9)), (Ok(Some(1)), Ok(Some(2))), "{add:?}");
+        assert_eq!(site.access(32, 9), Err(Refusal::OutOfRange));
+        assert_eq!(site, added, "{add:?}");
+        assert_eq!(site.step(remove.by(0)), Ok(()), "{remove:?}");
+        assert_eq!(site, before, "{remove:?}");
+    }
+}
+
+/// Area 8 is at 8 steps; the pair (0, 2) brings area 9 there too.
+#[test]
+fn taken_back_at_8_steps() {
+    let mut site = row();
+    taken_back(&mut site, 0, Kind::AddImport { area: 8, object: 63 }, Kind::RemoveImport { area: 8, object: 63 });
+    obey(&mut site, &[[12, 0, 8, 63]]);
+    taken_back(&mut site, 0, Kind::AddExport { area: 8, object: 63 }, Kind::RemoveExport { area: 8, object: 63 });
+    obey(&mut site, &[[11, 0, 8, 63]]);
+    let before = site.clone();
+    obey(&mut site, &[[5, 0, 0, 2]]);
+    assert_eq!(site.access(9, 63), Ok(Some(8)));
+    obey(&mut site, &[[6, 0, 0, 2]]);
+    assert_eq!(site.access(9, 63), Ok(None));
+    assert_eq!(site, before);
+}
+
+/// Not of a refused add, not of a remove, not by another activator, and not once another instruction was accepted.
+#[test]
+fn what_is_not_taken_back() {
+    let mut site = after(&[[7, 0, 0, 9]]);
+    assert_eq!(site.step([7, 0, 0, 9]), Err(Refusal::AlreadyThere));
+    obey(&mut site, &[[8, 0, 0, 9]]);
+    assert_eq!(site, State::founding(), "the remove takes out what was there");
+    refused(&[[1, 0, 1, 0], [3, 0, 0, 4], [4, 0, 0, 0]], [3, 0, 0, 0], 5);
+    refused(&[[7, 0, 0, 9]], [8, 4, 0, 9], 3);
+    refused(&[[1, 0, 1, 0], [3, 0, 1, 4], [7, 0, 0, 9]], [8, 4, 0, 9], 5);
+    refused(&[[1, 0, 1, 0], [7, 0, 1, 9]], [2, 0, 1, 0], 9);
+    // Areas 0 and 2 lie in area 1: area 2 has imported what the export of area 0 brought there.
+    let lent = [[1, 0, 1, 0], [1, 0, 2, 0], [5, 0, 0, 1], [5, 0, 2, 1], [7, 0, 0, 9], [11, 0, 0, 9], [9, 0, 2, 9]];
+    refused(&lent, [12, 0, 0, 9], 11);
 }
 
 #[test]

@@ -2,29 +2,26 @@
 -- list.
 -- Assumes nothing.
 use Prim.Native.Nat.{ℕ}
-use mathlib.Core.Path.{_≡_, refl, sym, subst, _∙_}
+use mathlib.Core.Path.{_≡_, refl, sym, ap, subst, _∙_}
 use mathlib.Core.Logic.{_⊎_, inl, inr}
-use mathlib.Core.Bool.{Bool, true, false, cond, not}
-use mathlib.Core.List.{List, [], _∷_, _++_}
+use mathlib.Core.Bool.{Bool, true, false, not}
+use mathlib.Core.List.{List, [], _∷_}
 use native.Mathlib.Decide.{ℕ-discrete}
-use lib.Dec.{T, eqb}
-use borrow.Author.Tests.{eq-eqb, ne-eqb}
+use lib.Dec.{T}
 use Rattle.state.specs.Site.{Kind, user, area, object, listed, withListed, Relation, owner, definition, structure, import, export, related, withPair, owns}
 use Rattle.state.specs.Site.{Site}
 use Rattle.state.proofs.Bools.{fails, so}
 use Rattle.state.proofs.Laws.{list-keeps-pairs, related-else, related-other-relation}
 use Rattle.soundness.specs.Sound.{Sound}
-use Rattle.instructions.specs.Instructions.{Bytes, rule}
+use Rattle.instructions.specs.Instructions.{Bytes, rule, instruction, instructionOf}
 use Rattle.instructions.specs.declared.Target.{Target}
 use Rattle.instructions.specs.declared.Target.the-variants.{TheArea, Owner, Definition, Structure, Import, Export}
-use Rattle.instructions.specs.Decode.{decodeOf, misfits}
+use Rattle.instructions.specs.Decode.{decodeOf}
 use Rattle.instructions.proofs.Laws.{fits-exactly}
 use Rattle.successors.specs.Successor.{withoutOwner, changed, successor, successorOf}
-use Rattle.state.specs.Checks.{_when_, firstMet, metAt}
-use Rattle.soundness.specs.Tests.{isSound}
-use Rattle.machine.proofs.Laws.{accepted-meets-none}
-use Rattle.refusals.specs.Refusals.{checksOf, refusals}
-use Rattle.machine.specs.Step.{stepRefusal, stepOf, run}
+use Rattle.state.specs.Checks.{firstMet, metAt}
+use Rattle.machine.proofs.Laws.{accepted-meets-none, accepted-gives, refused-unchanged, number-by-first}
+use Rattle.machine.specs.Step.{stepOf, run}
 use Rattle.guarantees.specs.Demand3
 use Rattle.guarantees.specs.Demand3.{Silent, silent-end, silent-next, LendingGuarantee}
 use Rattle.instructions.specs.declared.Instruction.{Instruction}
@@ -32,9 +29,9 @@ use Rattle.instructions.specs.declared.Decoded.{Decoded}
 use Rattle.instructions.specs.declared.Decoded.the-variants.{Fits, NoCode, OutOfRange}
 use Rattle.guarantees.proofs.Parts.{different}
 use Rattle.instructions.specs.declared.Rule.{Rule}
-use Rattle.guarantees.proofs.Rows.{Row, row, lists-area, unlists-area, adds-owner, removes-owner, adds-structure, removes-structure}
+use Rattle.guarantees.proofs.Rows.{picks-one, Row, row, lists-area, unlists-area, adds-owner, removes-owner, adds-structure, removes-structure}
 use Rattle.guarantees.proofs.Rows.{adds-definition, removes-definition, adds-import, removes-import, adds-export, removes-export}
-use Rattle.guarantees.proofs.Kept.{Accepted, accepted-sound}
+use Rattle.guarantees.proofs.Kept.{tableOf, Accepted, accepted-sound}
 
 -- ---- one step
 -- The state after a step is the one before, or the successor of an instruction that is accepted.
@@ -42,36 +39,51 @@ module _ (s : Site) (bytes : Bytes) where
   abbrev gives : Instruction → Site
   gives x = successor s x (bytes .activator) (bytes .a) (bytes .b)
 
-  abbrev pub Taken : Site → Type 0
-  Taken t = (x : Instruction) × Accepted s (rule x) (bytes .activator) (bytes .a) (bytes .b) × (t ≡ gives x)
+  abbrev accepts : Instruction → Type 0
+  accepts x = Accepted s (rule x) (bytes .activator) (bytes .a) (bytes .b)
+
+  pub record Obeyed (t : Site) : Type 0 where
+    pub kind : Instruction
+    pub fitting : decodeOf bytes ≡ Fits kind
+    pub accepted : accepts kind
+    pub given : t ≡ gives kind
 
   -- by what the bytes fit; one that fits nothing would meet 1 or 2
-  picked : (d : Decoded) → decodeOf bytes ≡ d
-      → ((n : ℕ) → metAt n ((12 when not (isSound s)) ∷ (misfits d ++ checksOf s bytes d)) ≡ false) → Taken (successorOf s bytes d)
+  picked : (d : Decoded) → decodeOf bytes ≡ d → ((n : ℕ) → metAt n (tableOf s bytes d) ≡ false) → Obeyed (successorOf s bytes d)
   picked NoCode e passes = absurd (fails (passes 1) tt)
   picked OutOfRange e passes = absurd (fails (passes 2) tt)
-  picked (Fits x) e passes = (x, record { in-range = fits-exactly bytes x .0 e .in-range; passes = passes }, refl)
+  picked (Fits x) e passes =
+      let accepted : accepts x = record { in-range = fits-exactly bytes x .0 e .in-range; passes = passes } in
+      record { kind = x; fitting = e; accepted = accepted; given = refl }
 
-  accepted : stepOf s bytes .refusal ≡ 0 → Taken (successorOf s bytes (decodeOf bytes))
-  accepted e = picked (decodeOf bytes) refl (accepted-meets-none s bytes e)
+  pub obeyed : stepOf s bytes .refusal ≡ 0 → Obeyed (stepOf s bytes .state)
+  obeyed e = rw (accepted-gives s bytes e) (picked (decodeOf bytes) refl (accepted-meets-none s bytes e))
 
-  pub stepped : (stepOf s bytes .state ≡ s) ⊎ Taken (stepOf s bytes .state)
-  unfolding stepOf stepRefusal
-  stepped = go (ℕ-discrete (firstMet (refusals s bytes)) 0)
+  pub stepped : (stepOf s bytes .state ≡ s) ⊎ Obeyed (stepOf s bytes .state)
+  stepped = go (ℕ-discrete (stepOf s bytes .refusal) 0)
     where
-      n : ℕ
-      n = firstMet (refusals s bytes)
+      go : Dec (stepOf s bytes .refusal ≡ 0) → (stepOf s bytes .state ≡ s) ⊎ Obeyed (stepOf s bytes .state)
+      go (yes e) = inr (obeyed e)
+      go (no f) = inl (refused-unchanged s bytes f)
 
-      go : Dec (n ≡ 0) → (cond (eqb n 0) (successorOf s bytes (decodeOf bytes)) s ≡ s) ⊎ Taken (cond (eqb n 0) (successorOf s bytes (decodeOf bytes)) s)
-      go (yes e) = rw (eq-eqb n 0 e) (inr (accepted e))
-      go (no f) = inl (rw (ne-eqb n 0 f))
+  -- the instruction that the code picks
+  pub obeyed-as : (x : Instruction) → instructionOf (bytes .code) ≡ instruction x → stepOf s bytes .refusal ≡ 0
+      → accepts x × (stepOf s bytes .state ≡ gives x)
+  obeyed-as x picks e =
+      let y = obeyed e in
+      let same = picks-one (sym (fits-exactly bytes (y .kind) .0 (y .fitting) .picked) ∙ picks) in
+      subst (λ (z : Instruction). accepts z × (stepOf s bytes .state ≡ gives z)) same (y .accepted, y .given)
+
+  -- the number is that of the table, by what the bytes fit
+  pub by-table : (d : Decoded) → decodeOf bytes ≡ d → stepOf s bytes .refusal ≡ firstMet (tableOf s bytes d)
+  by-table d e = number-by-first s bytes ∙ ap (λ (x : Decoded). firstMet (tableOf s bytes x)) e
 
 pub step-sound : (s : Site) (bytes : Bytes) → Sound s → Sound (stepOf s bytes .state)
 step-sound s bytes h = go (stepped s bytes)
   where
-    go : (stepOf s bytes .state ≡ s) ⊎ Taken s bytes (stepOf s bytes .state) → Sound (stepOf s bytes .state)
+    go : (stepOf s bytes .state ≡ s) ⊎ Obeyed s bytes (stepOf s bytes .state) → Sound (stepOf s bytes .state)
     go (inl e) = rw e h
-    go (inr y) = rw (y .2) (accepted-sound s h (row (y .0)) (bytes .activator) (bytes .a) (bytes .b) (y .1))
+    go (inr y) = rw (y .given) (accepted-sound s h (row (y .kind)) (bytes .activator) (bytes .a) (bytes .b) (y .accepted))
 
 -- ---- what a step leaves to an area
 -- the area's owner, definition, import and export pairs are the same
@@ -118,26 +130,26 @@ module _ (s : Site) (u a b p : ℕ) (here : T (listed s area p)) (silent : T (ow
   his-area : (t : Target) (v : Bool) → not (owns s u a) ≡ false → Same s (changed s t v u a b) p
   his-area t v e = changed-same s t v u a b p (λ q. silent (rw q (so (owns s u a) e)))
 
-  taken-same : {r : Rule} → Row r → Accepted s r u a b → Same s (changed s (r .target) (r .adds) u a b) p
-  taken-same lists-area y = changed-same s TheArea true u a b p (λ q. fails (y .passes 6) (rw q at here))
-  taken-same unlists-area y = his-area TheArea false (y .passes 5)
-  taken-same adds-owner y = his-area Owner true (y .passes 5)
-  taken-same removes-owner y = his-area Owner false (y .passes 5)
-  taken-same adds-structure y = same-structure s a b true p
-  taken-same removes-structure y = same-structure s a b false p
-  taken-same adds-definition y = his-area Definition true (y .passes 5)
-  taken-same removes-definition y = his-area Definition false (y .passes 5)
-  taken-same adds-import y = his-area Import true (y .passes 5)
-  taken-same removes-import y = his-area Import false (y .passes 5)
-  taken-same adds-export y = his-area Export true (y .passes 5)
-  taken-same removes-export y = his-area Export false (y .passes 5)
+  obeyed-same : {r : Rule} → Row r → Accepted s r u a b → Same s (changed s (r .target) (r .adds) u a b) p
+  obeyed-same lists-area y = changed-same s TheArea true u a b p (λ q. fails (y .passes 6) (rw q at here))
+  obeyed-same unlists-area y = his-area TheArea false (y .passes 5)
+  obeyed-same adds-owner y = his-area Owner true (y .passes 5)
+  obeyed-same removes-owner y = his-area Owner false (y .passes 5)
+  obeyed-same adds-structure y = same-structure s a b true p
+  obeyed-same removes-structure y = same-structure s a b false p
+  obeyed-same adds-definition y = his-area Definition true (y .passes 5)
+  obeyed-same removes-definition y = his-area Definition false (y .passes 5)
+  obeyed-same adds-import y = his-area Import true (y .passes 5)
+  obeyed-same removes-import y = his-area Import false (y .passes 5)
+  obeyed-same adds-export y = his-area Export true (y .passes 5)
+  obeyed-same removes-export y = his-area Export false (y .passes 5)
 
 pub step-same : (s : Site) (bytes : Bytes) (p : ℕ) → T (listed s area p) → (T (owns s (bytes .activator) p) → ⊥) → Same s (stepOf s bytes .state) p
 step-same s bytes p here silent = go (stepped s bytes)
   where
-    go : (stepOf s bytes .state ≡ s) ⊎ Taken s bytes (stepOf s bytes .state) → Same s (stepOf s bytes .state) p
+    go : (stepOf s bytes .state ≡ s) ⊎ Obeyed s bytes (stepOf s bytes .state) → Same s (stepOf s bytes .state) p
     go (inl e) = rw e (same-none s p)
-    go (inr y) = rw (y .2) (taken-same s (bytes .activator) (bytes .a) (bytes .b) p here silent (row (y .0)) (y .1))
+    go (inr y) = rw (y .given) (obeyed-same s (bytes .activator) (bytes .a) (bytes .b) p here silent (row (y .kind)) (y .accepted))
 
 -- ---- a list
 -- an area that keeps its owners is listed still

@@ -3,7 +3,7 @@
 --     accepted-sound           the claim, one clause a row
 -- Assumes nothing.
 use Prim.Native.Nat.{ℕ, _<_}
-use mathlib.Core.Path.{_≡_, refl, sym, subst, _∙_}
+use mathlib.Core.Path.{_≡_, refl, sym, ap, subst, _∙_}
 use mathlib.Core.Logic.{_⊎_, inl, inr, ⊎-elim}
 use mathlib.Core.Bool.{Bool, true, false, _&&_, _||_, not}
 use mathlib.Core.List.{List, _∷_, _++_}
@@ -21,18 +21,26 @@ use Rattle.access.proofs.Laws.{access-is-defined}
 use Rattle.soundness.specs.Sound.{Named, DefinedOnce, Valid, Sound}
 use Rattle.soundness.specs.Tests.{isValid, isSound}
 use Rattle.soundness.proofs.Laws.{valid-decided}
-use Rattle.instructions.specs.Decode.{fits}
+use Rattle.instructions.specs.Instructions.{Bytes}
+use Rattle.instructions.specs.Decode.{fits, misfits}
+use Rattle.instructions.specs.declared.Decoded.{Decoded}
 use Rattle.instructions.specs.declared.Target.the-variants.{TheArea}
 use Rattle.successors.specs.Successor.{withoutOwner, changed}
 use Rattle.state.specs.Checks.{Check, _when_, metAt}
 use Rattle.readings.specs.Readings.{seenOf}
-use Rattle.refusals.specs.Refusals.{soleOwner, onlyArea, otherOwner, inUse, earlyChecks, lateChecks}
+use Rattle.refusals.specs.Refusals.{soleOwner, onlyArea, otherOwner, inUse, earlyChecks, lateChecks, checksOf}
 use Rattle.instructions.specs.declared.Rule.{Rule}
 use Rattle.guarantees.proofs.Rows.{Row, lists-area, unlists-area, adds-owner, removes-owner, adds-structure, removes-structure}
 use Rattle.guarantees.proofs.Rows.{adds-definition, removes-definition, adds-import, removes-import, adds-export, removes-export}
 use Rattle.guarantees.proofs.Parts.{different, different-kind, consistent-add, consistent-remove, consistent-list, Unnamed, consistent-unlist, consistent-without, once-same, acceptable-pair, acceptable-more, users-without, areas-without, valid-same, valid-add, own-add, own-remove}
 
 -- ---- truth values of a check that is not met
+pub unmet : (p : Bool) → T p → not p ≡ false
+unmet p t = ap not (is-true p t)
+
+pub both-unmet : (p q : Bool) → T p → T q → not (p && q) ≡ false
+both-unmet p q s t = unmet (p && q) (and-both p q s t)
+
 pub both-so : (p q : Bool) → not (p && q) ≡ false → T p × T q
 both-so p q e = let t = so (p && q) e in (and-left p q t, and-right p q t)
 
@@ -46,7 +54,11 @@ none-of-six p q r t v w e =
     let e1 = neither p q (e2 .0) in
     (e1 .0, e1 .1, e2 .1, e3 .1, e4 .1, e5 .1)
 
--- the table of refusals for bytes that fit an instruction with this row
+-- the table of refusals, by what the bytes fit
+abbrev pub tableOf : Site → Bytes → Decoded → List Check
+tableOf s bytes d = (12 when not (isSound s)) ∷ (misfits d ++ checksOf s bytes d)
+
+-- the same for bytes that fit an instruction with this row
 abbrev pub table : Site → Rule → (u a b : ℕ) → List Check
 table s r u a b =
     (12 when not (isSound s)) ∷ (1 when false) ∷ (2 when false) ∷ (earlyChecks (seenOf s u a b) r ++ lateChecks s r u a b)
@@ -55,6 +67,22 @@ table s r u a b =
 pub record Accepted (s : Site) (r : Rule) (u a b : ℕ) : Type 0 where
   pub in-range : T (ltb u (limit user) && ltb a (limit area) && fits (r .target) b)
   pub passes : (n : ℕ) → metAt n (table s r u a b) ≡ false
+
+pub below : (n m : ℕ) → T (ltb n m) → n < m
+below n m t = ltb-true n m (is-true (ltb n m) t)
+
+module _ {s : Site} {r : Rule} {u a b : ℕ} (y : Accepted s r u a b) where
+  both-below : T (ltb u (limit user) && ltb a (limit area))
+  both-below = and-left (ltb u (limit user) && ltb a (limit area)) (fits (r .target) b) (y .in-range)
+
+  pub user-below : u < limit user
+  user-below = below u (limit user) (and-left (ltb u (limit user)) (ltb a (limit area)) both-below)
+
+  pub area-below : a < limit area
+  area-below = below a (limit area) (and-right (ltb u (limit user)) (ltb a (limit area)) both-below)
+
+  pub b-fits : T (fits (r .target) b)
+  b-fits = and-right (ltb u (limit user) && ltb a (limit area)) (fits (r .target) b) (y .in-range)
 
 module _ (s : Site) (h : Sound s) where
   -- a number that is now listed is the new one, or was listed
@@ -334,19 +362,13 @@ module _ (s : Site) (h : Sound s) where
       pair-remove r no-owner no-definition i j (valid-decided (withPair s r i j false) .0 (so (isValid (withPair s r i j false)) valid))
 
   -- ---- the twelve
-  in-range : (o p q : Bool) → T (o && p && q) → T p × T q
-  in-range o p q t = (and-right o p (and-left (o && p) q t), and-right (o && p) q t)
-
-  below : (n m : ℕ) → T (ltb n m) → n < m
-  below n m t = ltb-true n m (is-true (ltb n m) t)
-
   pub accepted-sound : {r : Rule} → Row r → (u a b : ℕ) → Accepted s r u a b → Sound (changed s (r .target) (r .adds) u a b)
   accepted-sound lists-area u a b y =
-      let ha = holds (listed-same s area a true (h .shaped) (below a (limit area) (in-range (ltb u (limit user)) (ltb a (limit area)) (eqb b 0) (y .in-range) .0))) in
+      let ha = holds (listed-same s area a true (h .shaped) (area-below y)) in
       owner-add area a u a (so (listed s user u) (y .passes 3)) ha (λ v t. inr t) (λ c t. now-listed area a c t) (λ o t. t)
   accepted-sound unlists-area u a b y = area-remove u a (y .passes 8) (y .passes 9)
   accepted-sound adds-owner u a b y =
-      let hb = holds (listed-same s user b true (h .shaped) (below b (limit user) (in-range (ltb u (limit user)) (ltb a (limit area)) (ltb b (limit user)) (y .in-range) .1))) in
+      let hb = holds (listed-same s user b true (h .shaped) (below b (limit user) (b-fits y))) in
       owner-add user b b a hb (so (listed s area a) (y .passes 4)) (λ v t. now-listed user b v t) (λ c t. inr t) (λ o t. t)
   accepted-sound removes-owner u a b y = owner-remove b a (y .passes 8)
   accepted-sound adds-structure u a b y =
@@ -356,7 +378,7 @@ module _ (s : Site) (h : Sound s) where
       (λ e. absurd (different import structure tt e))
   accepted-sound removes-structure u a b y = valid-cut structure (different owner structure tt) (different definition structure tt) a b (y .passes 11)
   accepted-sound adds-definition u a b y =
-      object-add a b (below b (limit object) (in-range (ltb u (limit user)) (ltb a (limit area)) (ltb b (limit object)) (y .in-range) .1)) (so (listed s area a) (y .passes 4)) (y .passes 6)
+      object-add a b (below b (limit object) (b-fits y)) (so (listed s area a) (y .passes 4)) (y .passes 6)
   accepted-sound removes-definition u a b y =
       object-remove a b (so (defines s b a) (y .passes 7)) (valid-decided (object-less a b) .0 (so (isValid (object-less a b)) (y .passes 11)))
   accepted-sound adds-import u a b y = entry-add import (different owner import tt) (different definition import tt) refl a b (y .passes 4) (y .passes 10)

@@ -24,7 +24,7 @@ use Rattle.instructions.specs.declared.Rule.{Rule}
 use Rattle.guarantees.proofs.Rows.{Row, row, lists-area, unlists-area, adds-owner, removes-owner, adds-structure, removes-structure}
 use Rattle.guarantees.proofs.Rows.{adds-definition, removes-definition, adds-import, removes-import, adds-export, removes-export}
 use Rattle.guarantees.proofs.Kept.{both-so, Accepted}
-use Rattle.guarantees.proofs.Demand3.{Taken, stepped, step-sound, step-same, listed-still, silent-still}
+use Rattle.guarantees.proofs.Demand3.{Obeyed, stepped, step-sound, step-same, listed-still, silent-still}
 
 -- ---- one step
 -- The structure pair (p, q) in the state t that an instruction of user u gives from s: it is as before, or it may have
@@ -49,30 +49,30 @@ module _ (s : Site) (u a b p q : ℕ) where
   remove either (inl e) = rw (e .1, e .2) (removed either (remove-adds-none s structure structure a b a b))
   remove either (inr e) = as-before e
 
-  taken-pair : {r : Rule} → Row r → Accepted s r u a b → PairChange s (changed s (r .target) (r .adds) u a b) u p q
-  taken-pair lists-area y = as-before refl
-  taken-pair unlists-area y = as-before refl
-  taken-pair adds-owner y = as-before refl
-  taken-pair removes-owner y = as-before refl
-  taken-pair adds-structure y =
+  obeyed-pair : {r : Rule} → Row r → Accepted s r u a b → PairChange s (changed s (r .target) (r .adds) u a b) u p q
+  obeyed-pair lists-area y = as-before refl
+  obeyed-pair unlists-area y = as-before refl
+  obeyed-pair adds-owner y = as-before refl
+  obeyed-pair removes-owner y = as-before refl
+  obeyed-pair adds-structure y =
       add (both-so (owns s u a) (owns s u b) (y .passes 5)) (related-else s structure structure a b p q true)
-  taken-pair removes-structure y =
+  obeyed-pair removes-structure y =
       remove (or-cases (owns s u a) (owns s u b) (so (mayCut (seenOf s u a b)) (y .passes 5)))
       (related-else s structure structure a b p q false)
-  taken-pair adds-definition y = as-before refl
-  taken-pair removes-definition y = as-before refl
-  taken-pair adds-import y = as-before refl
-  taken-pair removes-import y = as-before refl
-  taken-pair adds-export y = as-before refl
-  taken-pair removes-export y = as-before refl
+  obeyed-pair adds-definition y = as-before refl
+  obeyed-pair removes-definition y = as-before refl
+  obeyed-pair adds-import y = as-before refl
+  obeyed-pair removes-import y = as-before refl
+  obeyed-pair adds-export y = as-before refl
+  obeyed-pair removes-export y = as-before refl
 
 step-pair : (s : Site) (bytes : Bytes) (p q : ℕ) → PairChange s (stepOf s bytes .state) (bytes .activator) p q
 step-pair s bytes p q = go (stepped s bytes)
   where
-    go : (stepOf s bytes .state ≡ s) ⊎ Taken s bytes (stepOf s bytes .state)
+    go : (stepOf s bytes .state ≡ s) ⊎ Obeyed s bytes (stepOf s bytes .state)
         → PairChange s (stepOf s bytes .state) (bytes .activator) p q
     go (inl e) = rw e (as-before refl)
-    go (inr y) = rw (y .2) (taken-pair s (bytes .activator) (bytes .a) (bytes .b) p q (row (y .0)) (y .1))
+    go (inr y) = rw (y .given) (obeyed-pair s (bytes .activator) (bytes .a) (bytes .b) p q (row (y .kind)) (y .accepted))
 
 -- A user who does not own both areas adds no pair of them, and one who owns neither removes none.
 not-added : {s t : Site} {u p q : ℕ} → PairChange s t u p q → (T (owns s u p) × T (owns s u q) → ⊥)

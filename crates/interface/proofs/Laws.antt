@@ -22,14 +22,17 @@ use Rattle.access.specs.declared.Answer.{Answer}
 use Rattle.access.specs.declared.Answer.the-variants.{Steps, NoAccess}
 use Rattle.access.proofs.Laws.{answer-is-right}
 use Rattle.access.specs.Claims.{Right}
-use Rattle.records.specs.Record.{recordSize, bytesOf, stateOf, isSized}
+use Rattle.records.specs.Record.{recordSize, bytesOf, isRecord, stateOf, isSized}
 use Rattle.records.proofs.Laws.{state-of-bytes, bytes-of-state, bytes-are-record, bytes-length, record-length, stored-sized, stored-other}
 use Rattle.machine.specs.Step.{stepOf, run, questionRefusals, replyOf, questionNumbers}
+use Rattle.instructions.specs.Instructions.{Bytes, fourBytes}
 use Rattle.guarantees.specs.Demand3.{Upheld}
+use Rattle.guarantees.specs.TakingBack.{TakenBack}
 use Rattle.machine.specs.declared.Reply.the-variants.{Refused, Answered}
 use Rattle.machine.proofs.Laws.{run-none, run-more, reply-by-first}
 use Rattle.machine.proofs.Laws as machine
 use Rattle.guarantees.proofs.Demand3.{demand-3}
+use Rattle.guarantees.proofs.TakingBack.{taking-back}
 use Rattle.site_file.specs.Reading.{readOf, readNumbers}
 use Rattle.label_finder.specs.Finder.{hasLabel, textAt, textLength}
 use Rattle.site_file.proofs.Laws.{read-sound, read-numbers, read-number}
@@ -79,6 +82,32 @@ records-upheld buffer h list =
     let upheld = demand-3 (stateOf buffer) list h in
     let same : stateOf (runBuffer buffer list) ≡ after = ap stateOf (run-is-run buffer (Steps.sound-record buffer h) list) ∙ state-of-bytes after (upheld .sound .shaped) in
     subst (λ (t : Site). Upheld (stateOf buffer) list t) (sym same) upheld
+
+-- ---- taking back
+pub taking-back-bytes : Claims.TakingBackBytes
+taking-back-bytes buffer add remove opposite u a b e =
+    record {
+      accepted = Steps.number-is (stepBuffer buffer x) y ∙ ap (λ (t : Site). stepOf t y .refusal) next ∙ taken .accepted;
+      same-bytes =
+          Steps.after-record (stepBuffer buffer x) y (Steps.next-record buffer x here)
+          ∙ ap bytesOf (ap (λ (t : Site). stepOf t y .state) next ∙ taken .earlier)
+          ∙ bytes-of-state buffer here;
+    }
+  where
+    x : Bytes
+    x = fourBytes add u a b
+
+    y : Bytes
+    y = fourBytes remove u a b
+
+    here : T (isRecord buffer)
+    here = Steps.obeyed buffer x e
+
+    next : stateOf (stepBuffer buffer x) ≡ stepOf (stateOf buffer) x .state
+    next = Steps.next-state buffer x here
+
+    taken : TakenBack (stateOf buffer) x y
+    taken = taking-back (stateOf buffer) (Steps.obeyed-sound buffer x e) add remove opposite u a b (sym (Steps.number-is buffer x) ∙ e)
 
 -- ---- refusals
 pub refused-same-bytes : Claims.RefusedSameBytes

@@ -12,10 +12,11 @@ use Rattle.state.specs.Site.{Site, Shaped, founding}
 use Rattle.access.specs.Answer.{longest}
 use Rattle.soundness.specs.Sound.{Sound}
 use Rattle.records.specs.Record.{bytesOf, isRecord, stateOf, isSized}
-use Rattle.instructions.specs.Instructions.{Bytes}
+use Rattle.instructions.specs.Instructions.{Bytes, fourBytes}
 use Rattle.refusals.specs.Refusals.{stepNumbers}
 use Rattle.machine.specs.Step.{stepOf, run, questionNumbers, replyOf}
 use Rattle.guarantees.specs.Demand3.{Upheld}
+use Rattle.guarantees.specs.TakingBack.{Opposite}
 use Rattle.site_file.specs.Reading.{readNumbers, readOf}
 use Rattle.site_format.specs.Format.{AreBytes}
 use Rattle.label_finder.specs.Finder.{hasLabel, textAt, textLength}
@@ -58,6 +59,20 @@ abbrev pub RecordsUpheld : Type 0
 RecordsUpheld =
     (buffer : List ℕ) → Sound (stateOf buffer) → (list : List Bytes)
     → Upheld (stateOf buffer) list (stateOf (runBuffer buffer list))
+
+-- ---- document 02, point 7: "An add (an odd code) that got 0 is taken back by the matching remove: code + 1, with the
+-- same activator, a and b." That each add has its remove, and that it is the next code, is EveryAdd (guarantees).
+-- "While the record is as the add left it, the remove gets 0, and every byte is then as it was before the add",
+-- whatever bytes the buffer has.
+pub record BytesTakenBack (buffer : List ℕ) (x y : Bytes) : Type 0 where
+  pub accepted : stepNumber (stepBuffer buffer x) y ≡ 0
+  pub same-bytes : stepBuffer (stepBuffer buffer x) y ≡ buffer
+
+abbrev pub TakingBackBytes : Type 0
+TakingBackBytes =
+    (buffer : List ℕ) (add remove : ℕ) → Opposite add remove → (u a b : ℕ)
+    → stepNumber buffer (fourBytes add u a b) ≡ 0
+    → BytesTakenBack buffer (fourBytes add u a b) (fourBytes remove u a b)
 
 -- ---- "or the refusal, and no byte is changed"
 abbrev pub RefusedSameBytes : Type 0

@@ -59,6 +59,14 @@ pub accepted-meets-none : Claims.AcceptedMeetsNone
 unfolding stepOf stepRefusal
 accepted-meets-none s bytes e n = none-met-at (refusals s bytes) (all-numbered s bytes (decodeOf bytes)) e n
 
+pub number-by-first : Laws.NumberByFirst
+unfolding stepOf stepRefusal
+number-by-first s bytes = refl
+
+pub accepted-gives : Laws.AcceptedGives
+unfolding stepOf
+accepted-gives s bytes e = ap (λ (b : Bool). cond b (successorOf s bytes (decodeOf bytes)) s) (eq-eqb (stepRefusal s bytes) 0 e)
+
 pub unsound-refused : Laws.UnsoundRefused
 unfolding stepOf stepRefusal
 unsound-refused s bytes e = met (12 when not (isSound s)) _ (ap not e)

@@ -9,8 +9,21 @@ use Rattle.access.specs.Lending.{lending}
 use Rattle.access.specs.Answer.{answer}
 use Rattle.soundness.specs.Tests.{isSound}
 use Rattle.instructions.specs.Instructions.{Bytes}
+use Rattle.instructions.specs.Decode.{decodeOf}
+use Rattle.successors.specs.Successor.{successorOf}
+use Rattle.refusals.specs.Refusals.{refusals}
 use Rattle.machine.specs.Step.{stepOf, run, questionRefusals, refusedOr, replyOf}
 use Rattle.machine.specs.declared.Reply.the-variants.{Refused}
+
+-- the number is that of the first refusal that is met, 0 if none is
+abbrev pub NumberByFirst : Type 0
+NumberByFirst = (s : Site) (bytes : Bytes) → stepOf s bytes .refusal ≡ firstMet (refusals s bytes)
+
+-- an instruction that is accepted gives its successor
+abbrev pub AcceptedGives : Type 0
+AcceptedGives =
+    (s : Site) (bytes : Bytes) → stepOf s bytes .refusal ≡ 0
+    → stepOf s bytes .state ≡ successorOf s bytes (decodeOf bytes)
 
 -- a number has at most two digits
 abbrev pub TwoDigits : Type 0

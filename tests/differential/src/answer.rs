@@ -17,4 +17,13 @@ impl Answer {
             complaint: String::new(),
         }
     }
+
+    /// The same with more complaints, as far as they say anything.
+    pub fn complaining(mut self, complaints: impl IntoIterator<Item = String>) -> Answer {
+        let mut all = vec![self.complaint];
+        all.extend(complaints);
+        all.retain(|complaint| !complaint.is_empty());
+        self.complaint = all.join("; ");
+        self
+    }
 }

@@ -68,10 +68,11 @@ pub fn count_step(state: &State, instruction: [u8; 4], answer: u32, seen: &mut S
     }
 }
 
-/// "the state it would give", for codes 6 and 9 to 12.
+/// "the state it would give", for codes 5, 6 and 9 to 12.
 pub fn given(state: &State, [code, _, a, b]: [u8; 4]) -> State {
     let mut next = state.clone();
     match code {
+        5 => next.structure.insert((a, b)),
         6 => next.structure.remove(&(a, b)),
         9 => next.imports.insert((b, a)),
         10 => next.imports.remove(&(b, a)),

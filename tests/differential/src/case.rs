@@ -2,7 +2,7 @@
 
 use crate::answer::Answer;
 use crate::site::Site;
-use crate::{expected, lending, library, program};
+use crate::{expected, lending, library, program, taking_back};
 use std::borrow::Cow;
 
 #[derive(Clone, Debug, PartialEq, Eq)]
@@ -14,6 +14,11 @@ pub enum Case<'a> {
     Step {
         site: Cow<'a, Site>,
         instruction: [u8; 4],
+    },
+    /// An add, and at once the matching remove.
+    Back {
+        site: Cow<'a, Site>,
+        add: [u8; 4],
     },
     Access {
         site: Cow<'a, Site>,
@@ -48,6 +53,13 @@ impl<'a> Case<'a> {
         Case::Step {
             site: Cow::Borrowed(site),
             instruction,
+        }
+    }
+
+    pub fn back(site: &'a Site, add: [u8; 4]) -> Case<'a> {
+        Case::Back {
+            site: Cow::Borrowed(site),
+            add,
         }
     }
 
@@ -91,6 +103,7 @@ impl<'a> Case<'a> {
         match self {
             Case::Founding { .. } => "founding",
             Case::Step { .. } => "step",
+            Case::Back { .. } => "back",
             Case::Access { .. } => "access",
             Case::List { .. } => "list",
             Case::Read { .. } => "read",
@@ -104,6 +117,7 @@ impl<'a> Case<'a> {
         match self {
             Case::Founding { buffer_len } => library::founding(*buffer_len),
             Case::Step { site, instruction } => library::step(&site.record, *instruction),
+            Case::Back { site, add } => taking_back::by_library(site, *add),
             Case::Access { site, area, object } => library::access(&site.record, *area, *object),
             Case::List { site, list } => lending::run_by_library(site, list),
             Case::Read { file, buffer_len } => library::read_file(file, *buffer_len),
@@ -117,6 +131,7 @@ impl<'a> Case<'a> {
         match self {
             Case::Founding { buffer_len } => expected::founding(*buffer_len),
             Case::Step { site, instruction } => expected::step(site, *instruction),
+            Case::Back { site, add } => expected::back(site, *add),
             Case::Access { site, area, object } => expected::access(site, *area, *object),
             Case::List { site, list } => expected::run(site, list),
             Case::Read { file, buffer_len } => expected::read_file(file, *buffer_len),

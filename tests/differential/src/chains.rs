@@ -49,6 +49,15 @@ impl Lengths {
         reached
     }
 
+    fn has_access(&self, area: u8) -> bool {
+        self.to(area).is_some_and(|steps| steps <= MOST_STEPS)
+    }
+
+    /// Has an area access, and none by the other lengths?
+    pub fn gain_on(&self, other: &Lengths) -> bool {
+        (0..=u8::MAX).any(|area| self.has_access(area) && !other.has_access(area))
+    }
+
     /// The length for an area that would import the object: over its nearest outer area, or as it is.
     fn with_import(&self, state: &State, area: u8) -> Option<u8> {
         let outer_areas = state.structure.range((area, 0)..=(area, 255)).map(|pair| pair.1);

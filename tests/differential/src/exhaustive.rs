@@ -1,6 +1,6 @@
 //! Every sound state over users 0 and 1, areas 0 and 1 and object 0, with every instruction and access question over
-//! those numbers, the first number beyond them and the first beyond the limits; questions over those plus 256 too. And
-//! every such state with an own import besides.
+//! those numbers, the first number beyond them and the first beyond the limits; questions over those plus 256 too. Each
+//! accepted add is taken back. And every such state with an own import besides.
 
 use crate::case::Case;
 use crate::library;
@@ -8,6 +8,7 @@ use crate::numbers::STEP_ANSWERS;
 use crate::seen::Seen;
 use crate::shards::Plan;
 use crate::site::Site;
+use crate::taking_back;
 use reference::State;
 use std::collections::BTreeSet;
 use std::sync::Mutex;
@@ -32,17 +33,19 @@ pub fn run(plan: &Plan) -> (String, Seen) {
     let (about_own_imports, own) = with_own_imports(plan, &sites);
     let line = format!(
         "of {} records {} sound by the library, {} by the reference; \
-         {} steps, answers 0 to 7, 15, 8 to 11: {:?}; {} access questions; {about_own_imports}",
+         {} steps, answers 0 to 7, 15, 8 to 11: {:?}; {}; {} access questions; {about_own_imports}",
         1 << PLACES,
         accepted.len(),
         sites.len(),
         asked.total("step"),
         asked.each("step", STEP_ANSWERS),
+        taking_back::text(&asked),
         asked.total("access"),
     );
     seen.add(asked);
     seen.add(own);
     seen.require("step", STEP_ANSWERS, 500);
+    taking_back::require(&mut seen, 500, 100);
     (line, seen)
 }
 
@@ -118,7 +121,7 @@ fn every_instruction(site: &Site, seen: &mut Seen) {
         for activator in [0, 1, 2, 32] {
             for a in [0, 1, 2, 32] {
                 for b in [0, 1, 2, 32, 64] {
-                    seen.compare(&Case::step(site, [code, activator, a, b]));
+                    taking_back::step(site, [code, activator, a, b], seen);
                 }
             }
         }

@@ -32,6 +32,19 @@ pub fn step(site: &Site, instruction: [u8; 4]) -> Answer {
     }
 }
 
+/// The answer to the remove, or to the add if there is nothing to take back.
+pub fn back(site: &Site, add: [u8; 4]) -> Answer {
+    let added = step(site, add);
+    remove(add, &added).unwrap_or(added)
+}
+
+/// The answer to the matching remove over the record that the add has left. None if the instruction is no add, or was
+/// refused.
+pub fn remove(add: [u8; 4], added: &Answer) -> Option<Answer> {
+    let matching = reference::matching_remove(add).filter(|_| added.number == 0)?;
+    Some(step(&Site::of_bytes(added.bytes.clone()), matching))
+}
+
 pub fn access(site: &Site, area: u32, object: u32) -> Answer {
     let steps = match &site.state {
         Some(state) => reference::access(state, area, object),

@@ -1,5 +1,5 @@
 //! Demand 3, executed: lists of instructions of any four bytes, run over the library while the owners of an area stay
-//! silent.
+//! silent. Each accepted add is taken back besides, and the list goes on as if it were not.
 
 use crate::answer::Answer;
 use crate::borders::{is_small, pairs_at};
@@ -13,6 +13,7 @@ use crate::seen::Seen;
 use crate::shards::Plan;
 use crate::site::Site;
 use crate::states::{sound_state, Shape};
+use crate::taking_back;
 use chance::Chance;
 use reference::State;
 
@@ -44,11 +45,12 @@ pub fn run(plan: &Plan) -> (String, Seen) {
     seen.require("silent at", 7..=9, 500);
     seen.require("silent and moved from", 7..=9, 150);
     seen.require("own imports again and again", [0], 400);
+    taking_back::require(&mut seen, 300, 200);
     let line = format!(
         "{} lists, {} of them with a change; instructions, answers 0 to 7, 15, 8 to 11: {:?}; \
          areas with no owner among the activators: {}, {} of them with imports or exports; \
          imports or exports of theirs at 7, 8 steps, and objects at 9: {:?}, at another number after the list: {:?}; \
-         with a change and {AGAIN_AND_AGAIN} refusals as 15 or more: {}",
+         with a change and {AGAIN_AND_AGAIN} refusals as 15 or more: {}; {}",
         seen.total("list"),
         seen.times("changed", 0),
         seen.each("instruction", STEP_ANSWERS),
@@ -57,6 +59,7 @@ pub fn run(plan: &Plan) -> (String, Seen) {
         seen.each("silent at", 7..=9),
         seen.each("silent and moved from", 7..=9),
         seen.times("own imports again and again", 0),
+        taking_back::text(&seen),
     );
     (line, seen)
 }
@@ -144,6 +147,7 @@ fn list_without(start: &State, silent: u8, chance: &mut Chance, seen: &mut Seen)
         list.push(bytes);
         let answer = match reference::step(&state, bytes) {
             Ok(next) => {
+                taking_back::count(&state, bytes, seen);
                 state = next;
                 0
             }
@@ -174,20 +178,17 @@ fn bytes_without(state: &State, silent: &[u8], others: &[u8], chance: &mut Chanc
     bytes
 }
 
-/// The list over the library: the record at its end, and a complaint if demand 3 does not hold of it.
+/// The list over the library: the record at its end, and a complaint if demand 3 does not hold of it, or if an add is
+/// not taken back.
 pub fn run_by_library(site: &Site, list: &[[u8; 4]]) -> Answer {
     let mut now = Answer::new(0_u32, site.record.clone());
     let mut complaints = Vec::new();
     for &instruction in list {
-        now = library::step(&now.bytes, instruction);
-        complaints.push(now.complaint);
-        if now.number == 0 && !library::is_sound(&now.bytes) {
-            complaints.push(format!(
-                "the library accepts {instruction:?} and calls the state after it unsound"
-            ));
-        }
-        if now.number == 0 && own_imports::are_in_record(&now.bytes) {
-            complaints.push(format!("after {instruction:?} an area imports what it defines"));
+        let before = now.bytes;
+        now = library::step(&before, instruction);
+        complaints.push(now.complaint.clone());
+        if now.number == 0 {
+            complaints.extend(wrong_with_one(&before, instruction, &now));
         }
     }
     if !library::is_sound(&now.bytes) {
@@ -196,11 +197,22 @@ pub fn run_by_library(site: &Site, list: &[[u8; 4]]) -> Answer {
     if let (Some(start), Some(end)) = (&site.state, reference::from_record(&now.bytes)) {
         complaints.extend(broken_promises(start, list, &end));
     }
-    complaints.retain(|complaint| !complaint.is_empty());
-    Answer {
-        complaint: complaints.join("; "),
-        ..Answer::new(0_u32, now.bytes)
+    Answer::new(0_u32, now.bytes).complaining(complaints)
+}
+
+/// What is wrong with an accepted instruction, by the records before and after it.
+fn wrong_with_one(before: &[u8], instruction: [u8; 4], now: &Answer) -> Vec<String> {
+    let mut wrong = Vec::new();
+    if !library::is_sound(&now.bytes) {
+        wrong.push(format!(
+            "the library accepts {instruction:?} and calls the state after it unsound"
+        ));
     }
+    if own_imports::are_in_record(&now.bytes) {
+        wrong.push(format!("after {instruction:?} an area imports what it defines"));
+    }
+    wrong.extend(taking_back::remove(before, instruction, now).map(|back| back.complaint));
+    wrong
 }
 
 /// What demand 3 says and is not so, of a sound state at the start.

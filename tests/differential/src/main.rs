@@ -32,6 +32,7 @@ mod shards;
 mod site;
 mod states;
 mod table_damage;
+mod taking_back;
 mod text;
 mod unsound;
 

@@ -1,4 +1,4 @@
-//! Random steps over random states, and records that are none or not sound.
+//! Random steps over random states, each accepted add taken back, and records that are none or not sound.
 
 use crate::aimed;
 use crate::borders;
@@ -10,6 +10,7 @@ use crate::seen::Seen;
 use crate::shards::Plan;
 use crate::site::{Site, OTHER_LENGTHS};
 use crate::states::{sound_state, Shape};
+use crate::taking_back;
 use crate::unsound::{one_step_too_far, turned};
 use chance::Chance;
 use reference::{State, RECORD_BYTES};
@@ -35,6 +36,10 @@ const QUESTIONED: [(Shape, usize); 4] = [
     (Shape::Chain, 6),
     (Shape::Medium, 6),
 ];
+
+/// How many states a shard has for adds that are tried and taken back, and how many of each kind are tried in each.
+const TRIED: usize = 200;
+const TRIED_STEPS: usize = 3;
 
 /// How many listed areas and objects are asked about at the end of a walk.
 const QUESTIONS: usize = 4;
@@ -85,11 +90,13 @@ pub fn run(plan: &Plan) -> (String, Seen) {
         for (shape, states) in QUESTIONED {
             (0..states).for_each(|_| every_question(sound_state(shape, chance), seen));
         }
+        (0..TRIED).for_each(|_| tried_adds(chance, seen));
     });
     require(&mut seen);
     let line = format!(
-        "{}; {}; {}",
+        "{}; {}; {}; {}",
         answers(&seen),
+        taking_back::text(&seen),
         about_the_limit(&seen),
         about_own_imports(&seen)
     );
@@ -116,6 +123,7 @@ fn require(seen: &mut Seen) {
     own_imports::require_steps(seen, 300);
     own_imports::require_records(seen, 300);
     seen.require("import by the definer of before", DEFINER_OF_BEFORE, 80);
+    taking_back::require(seen, 2000, 1000);
 }
 
 fn answers(seen: &Seen) -> String {
@@ -174,7 +182,7 @@ fn walk(start: State, steps: usize, chance: &mut Chance, seen: &mut Seen) {
 
 /// One step of a walk, to the state that it leaves. Gives the answer, if both sides give the same.
 fn step_on(site: &mut Site, instruction: [u8; 4], seen: &mut Seen) -> Option<u32> {
-    let answer = seen.compare(&Case::step(site, instruction))?;
+    let answer = taking_back::step(site, instruction, seen)?;
     let state = site.state.as_ref()?;
     seen.demand(
         answer.number != UNSOUND,
@@ -218,8 +226,23 @@ fn aimed_steps(chance: &mut Chance, seen: &mut Seen) {
         let Some(instruction) = aimed::instruction(&state, &users, chance) else {
             continue;
         };
-        if let Some(answer) = seen.compare(&Case::step(&site, instruction)) {
+        if let Some(answer) = taking_back::step(&site, instruction, seen) {
             borders::count_step(&state, instruction, answer.number, seen);
+        }
+    }
+}
+
+/// "Engineers try a lending, look, and take it back": imports and exports by which an area gets access, and owners who
+/// were listed before, each in the same state.
+fn tried_adds(chance: &mut Chance, seen: &mut Seen) {
+    let shape = chance.pick(&[Shape::Sparse, Shape::Medium, Shape::Chain, Shape::Ring]);
+    let state = sound_state(shape, chance);
+    let site = Site::of_state(state.clone());
+    for _ in 0..TRIED_STEPS {
+        let lendings = [9, 11].map(|code| taking_back::lending(&state, code, chance));
+        let owner = taking_back::listed_owner(&state, chance);
+        for add in lendings.into_iter().chain([owner]).flatten() {
+            taking_back::step(&site, add, seen);
         }
     }
 }
@@ -242,7 +265,7 @@ fn one_question(site: &Site, chance: &mut Chance, seen: &mut Seen) {
 
 /// One instruction and one access question about the same numbers, at times put above 255.
 fn step_and_question(site: &Site, instruction: [u8; 4], chance: &mut Chance, seen: &mut Seen) {
-    seen.compare(&Case::step(site, instruction));
+    taking_back::step(site, instruction, seen);
     let [_, _, area, object] = instruction;
     question(site, widened(area, 8, chance), widened(object, 8, chance), seen);
 }
@@ -292,7 +315,7 @@ fn too_far_record(chance: &mut Chance, seen: &mut Seen) {
     let is_too_far = borders::is_one_step_too_far(&state);
     let [code, user, area, object] = instruction_of_anyone(&state, chance);
     let site = Site::of_state(state);
-    let step = seen.compare(&Case::step(&site, [code, user, area, object]));
+    let step = taking_back::step(&site, [code, user, area, object], seen);
     let question = seen.compare(&Case::access(&site, area.into(), object.into()));
     for answer in [step, question].into_iter().flatten().filter(|_| is_too_far) {
         seen.count("one step too far", answer.number);

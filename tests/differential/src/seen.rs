@@ -27,7 +27,11 @@ pub struct Seen {
 impl Seen {
     /// The answer, if both sides give the same one.
     pub fn compare(&mut self, case: &Case) -> Option<Answer> {
-        let (library, reference) = (case.by_library(), case.by_reference());
+        self.compare_answers(case, case.by_library(), case.by_reference())
+    }
+
+    /// The same of the answers that both sides have given to the case.
+    pub fn compare_answers(&mut self, case: &Case, library: Answer, reference: Answer) -> Option<Answer> {
         self.count(case.kind(), reference.number);
         self.cases += 1;
         if self.cases.is_multiple_of(REPLAYED) {

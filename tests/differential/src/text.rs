@@ -24,7 +24,9 @@ impl Display for Case<'_> {
         write!(to, "{} ", self.kind())?;
         match self {
             Case::Founding { buffer_len } => write!(to, "{buffer_len}"),
-            Case::Step { site, instruction } => write!(to, "{} {}", numbers_text(instruction, " "), site_text(site)),
+            Case::Step { site, instruction } | Case::Back { site, add: instruction } => {
+                write!(to, "{} {}", numbers_text(instruction, " "), site_text(site))
+            }
             Case::Access { site, area, object } => write!(to, "{area} {object} {}", site_text(site)),
             Case::List { site, list } => {
                 let items: Vec<String> = list.iter().map(|instruction| numbers_text(instruction, ".")).collect();
@@ -134,9 +136,29 @@ pub fn parse(text: &str) -> Result<Case<'static>, String> {
             buffer_len: number(len)?,
         },
         ["mark", marks] => Case::Mark { marks: number(marks)? },
+        ["read", len, bytes] => Case::Read {
+            file: Cow::Owned(parse_bytes(bytes)?),
+            buffer_len: number(len)?,
+        },
+        ["label", area, bytes] => Case::Label {
+            file: Cow::Owned(parse_bytes(bytes)?),
+            area: number(area)?,
+        },
+        _ => return parse_over_site(&words),
+    };
+    Ok(case)
+}
+
+/// A case over a site, which stands behind its other words.
+fn parse_over_site(words: &[&str]) -> Result<Case<'static>, String> {
+    let case = match *words {
         ["step", code, activator, a, b, ref site @ ..] => Case::Step {
             site: Cow::Owned(parse_site(site)?),
-            instruction: [number(code)?, number(activator)?, number(a)?, number(b)?],
+            instruction: parse_instruction([code, activator, a, b])?,
+        },
+        ["back", code, activator, a, b, ref site @ ..] => Case::Back {
+            site: Cow::Owned(parse_site(site)?),
+            add: parse_instruction([code, activator, a, b])?,
         },
         ["access", area, object, ref site @ ..] => Case::Access {
             site: Cow::Owned(parse_site(site)?),
@@ -146,14 +168,6 @@ pub fn parse(text: &str) -> Result<Case<'static>, String> {
         ["list", list, ref site @ ..] => Case::List {
             site: Cow::Owned(parse_site(site)?),
             list: Cow::Owned(parse_instructions(list)?),
-        },
-        ["read", len, bytes] => Case::Read {
-            file: Cow::Owned(parse_bytes(bytes)?),
-            buffer_len: number(len)?,
-        },
-        ["label", area, bytes] => Case::Label {
-            file: Cow::Owned(parse_bytes(bytes)?),
-            area: number(area)?,
         },
         _ => return Err(format!("no case begins and goes on like this: {:?}", words.first())),
     };
@@ -168,6 +182,10 @@ fn number<T: std::str::FromStr>(text: &str) -> Result<T, String> {
 /// The items of a text with `between` between them; none for `-`.
 fn items<'a>(text: &'a str, between: &'a str) -> impl Iterator<Item = &'a str> {
     text.split(between).filter(move |_| text != "-")
+}
+
+fn parse_instruction([code, activator, a, b]: [&str; 4]) -> Result<[u8; 4], String> {
+    Ok([number(code)?, number(activator)?, number(a)?, number(b)?])
 }
 
 fn parse_instructions(text: &str) -> Result<Vec<[u8; 4]>, String> {
