@@ -20,13 +20,14 @@ use Rattle.access.specs.Answer.{access}
 use Rattle.access.proofs.Laws.{access-is-defined}
 use Rattle.soundness.specs.Sound.{Named, DefinedOnce, Valid, Sound}
 use Rattle.soundness.specs.Tests.{isValid, isSound}
-use Rattle.soundness.proofs.Laws.{valid-decided}
+use Rattle.soundness.proofs.Laws.{sound-decided, valid-decided}
 use Rattle.instructions.specs.Instructions.{Bytes}
 use Rattle.instructions.specs.Decode.{fits, misfits}
 use Rattle.instructions.specs.declared.Decoded.{Decoded}
 use Rattle.instructions.specs.declared.Target.the-variants.{TheArea}
 use Rattle.successors.specs.Successor.{withoutOwner, changed}
-use Rattle.state.specs.Checks.{Check, _when_, metAt}
+use Rattle.state.specs.Checks.{Check, _when_, firstMet, metAt}
+use Rattle.state.proofs.Checks.{passed}
 use Rattle.readings.specs.Readings.{seenOf}
 use Rattle.refusals.specs.Refusals.{soleOwner, onlyArea, otherOwner, inUse, earlyChecks, lateChecks, checksOf}
 use Rattle.instructions.specs.declared.Rule.{Rule}
@@ -54,7 +55,7 @@ none-of-six p q r t v w e =
     let e1 = neither p q (e2 .0) in
     (e1 .0, e1 .1, e2 .1, e3 .1, e4 .1, e5 .1)
 
--- the table of refusals, by what the bytes fit
+-- the table of refusals with what the bytes fit as an argument: `refusals s bytes` is `tableOf s bytes (decodeOf bytes)`
 abbrev pub tableOf : Site → Bytes → Decoded → List Check
 tableOf s bytes d = (12 when not (isSound s)) ∷ (misfits d ++ checksOf s bytes d)
 
@@ -62,6 +63,11 @@ tableOf s bytes d = (12 when not (isSound s)) ∷ (misfits d ++ checksOf s bytes
 abbrev pub table : Site → Rule → (u a b : ℕ) → List Check
 table s r u a b =
     (12 when not (isSound s)) ∷ (1 when false) ∷ (2 when false) ∷ (earlyChecks (seenOf s u a b) r ++ lateChecks s r u a b)
+
+-- its number in a sound state: from 3 on
+pub from-3 : (s : Site) (r : Rule) (u a b : ℕ) → Sound s
+    → firstMet (table s r u a b) ≡ firstMet (earlyChecks (seenOf s u a b) r ++ lateChecks s r u a b)
+from-3 s r u a b h = passed (12 when _) _ (unmet (isSound s) (sound-decided s (h .shaped) .1 h)) ∙ passed (1 when _) _ refl ∙ passed (2 when _) _ refl
 
 -- the numbers are in range, and no condition is met, by its number
 pub record Accepted (s : Site) (r : Rule) (u a b : ℕ) : Type 0 where

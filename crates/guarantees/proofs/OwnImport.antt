@@ -15,8 +15,6 @@ use Rattle.state.proofs.Bools.{is-true, is-false, or-cases, not-so, so}
 use Rattle.state.proofs.Checks.{met, passed, met-at, unmet-before}
 use Rattle.state.proofs.Laws.{related-inside}
 use Rattle.soundness.specs.Sound.{Named, Sound}
-use Rattle.soundness.specs.Tests.{isSound}
-use Rattle.soundness.proofs.Laws.{sound-decided}
 use Rattle.instructions.specs.Instructions.{Bytes, instruction, instructionOf, rule}
 use Rattle.instructions.specs.Decode.{decodeOf}
 use Rattle.instructions.proofs.Laws.{fits-exactly}
@@ -30,7 +28,7 @@ use Rattle.refusals.specs.Refusals.{entitled, ownImport}
 use Rattle.guarantees.specs.OwnImport
 use Rattle.guarantees.specs.OwnImport.{OwnImport}
 use Rattle.guarantees.proofs.Rows.{picks-one, by-code}
-use Rattle.guarantees.proofs.Kept.{unmet, both-unmet, tableOf}
+use Rattle.guarantees.proofs.Kept.{unmet, both-unmet, tableOf, from-3}
 use Rattle.guarantees.proofs.Demand3.{by-table}
 
 -- ---- code 9
@@ -86,9 +84,7 @@ module _ (s : Site) (bytes : Bytes) where
 
     to-number : firstMet (tableOf s bytes (Fits AddImport)) ≡ 15
     to-number =
-        passed (12 when _) _ (unmet (isSound s) (sound-decided s (h .shaped) .1 h))
-        ∙ passed (1 when _) _ refl
-        ∙ passed (2 when _) _ refl
+        from-3 s (rule AddImport) (bytes .activator) (bytes .a) (bytes .b) h
         ∙ passed (3 when _) _ (unmet (listed s user (bytes .activator)) (owner-named .first))
         ∙ passed (4 when _) _ (both-unmet (listed s area (bytes .a)) (listed s object (bytes .b)) (object-named .second) (object-named .first))
         ∙ passed (5 when _) _ (unmet (owns s (bytes .activator) (bytes .a)) (own .owned))

@@ -27,6 +27,10 @@ pub data Opposite : (add remove : ℕ) → Type 0 where
   -- "add / remove export of b by a"
   remove-export : Opposite 11 12
 
+-- "the matching remove from the same activator", of the same a and b, for an add x: with this code
+abbrev pub matchingRemove : (code : ℕ) → Bytes → Bytes
+matchingRemove code x = fourBytes code (x .activator) (x .a) (x .b)
+
 -- What is shown of an add x in state s and of the remove y that follows it at once: y "is always accepted and gives the
 -- earlier state in every field". That is the whole record, its lists too: a user "who was listed only by that add" is
 -- not listed in s, and so is not listed afterwards.
@@ -34,12 +38,11 @@ pub record TakenBack (s : Site) (x y : Bytes) : Type 0 where
   pub accepted : stepOf (stepOf s x .state) y .refusal ≡ 0
   pub earlier : stepOf (stepOf s x .state) y .state ≡ s
 
--- For every sound state and any bytes: "an accepted add" is taken back by "the matching remove from the same
--- activator", of the same a and b.
+-- For every sound state and any four bytes: "an accepted add, followed at once by the matching remove"
 abbrev pub TakingBack : Type 0
 TakingBack =
-    (s : Site) → Sound s → (add remove : ℕ) → Opposite add remove → (u a b : ℕ)
-    → stepOf s (fourBytes add u a b) .refusal ≡ 0 → TakenBack s (fourBytes add u a b) (fourBytes remove u a b)
+    (s : Site) → Sound s → (x : Bytes) (remove : ℕ) → Opposite (x .code) remove → stepOf s x .refusal ≡ 0
+    → TakenBack s x (matchingRemove remove x)
 
 -- "This covers all six adds": every code that picks an add has its matching remove, the next code
 abbrev pub EveryAdd : Type 0

@@ -1,19 +1,19 @@
 -- The claims of specs/Claims.antt, each proved under its name.
 -- Assumes nothing.
-use Prim.Native.Nat.{ℕ, _+_, _*_, _≤_}
+use Prim.Native.Nat.{ℕ, _+_, _*_}
 use mathlib.Core.Path.{_≡_, refl, sym, ap, subst, _∙_}
 use mathlib.Core.Logic.{_⊎_, inl, inr}
-use mathlib.Core.Bool.{Bool, true, false, _&&_, _||_, not, cond}
+use mathlib.Core.Bool.{Bool, true, false, _||_, not, cond}
 use mathlib.Core.List.{[], _∷_, map}
 use native.Mathlib.Omega.{arith}
 use native.Mathlib.Decide.{ℕ-discrete}
-use lib.Dec.{T, eqb, ltb, eqb→eq, lt→ltb}
+use lib.Dec.{T, eqb, ltb, eqb→eq}
 use lib.ListN.{length}
 use borrow.Author.Tests.{le-ltb}
 use Rattle.state.specs.Checks.{firstMet, among}
 use Rattle.state.specs.Site.{founding}
 use Rattle.state.specs.Site.{Site}
-use Rattle.state.proofs.Bools.{or-left, or-right, test}
+use Rattle.state.proofs.Bools.{or-right, test}
 use Rattle.state.proofs.Checks.{first-meets}
 use Rattle.state.proofs.Laws.{founding-shaped}
 use Rattle.access.specs.Lending.{Lending, lending}
@@ -25,9 +25,9 @@ use Rattle.access.specs.Claims.{Right}
 use Rattle.records.specs.Record.{recordSize, bytesOf, isRecord, stateOf, isSized}
 use Rattle.records.proofs.Laws.{state-of-bytes, bytes-of-state, bytes-are-record, bytes-length, record-length, stored-sized, stored-other}
 use Rattle.machine.specs.Step.{stepOf, run, questionRefusals, replyOf, questionNumbers}
-use Rattle.instructions.specs.Instructions.{Bytes, fourBytes}
+use Rattle.instructions.specs.Instructions.{Bytes}
 use Rattle.guarantees.specs.Demand3.{Upheld}
-use Rattle.guarantees.specs.TakingBack.{TakenBack}
+use Rattle.guarantees.specs.TakingBack.{matchingRemove, TakenBack}
 use Rattle.machine.specs.declared.Reply.the-variants.{Refused, Answered}
 use Rattle.machine.proofs.Laws.{run-none, run-more, reply-by-first}
 use Rattle.machine.proofs.Laws as machine
@@ -85,7 +85,7 @@ records-upheld buffer h list =
 
 -- ---- taking back
 pub taking-back-bytes : Claims.TakingBackBytes
-taking-back-bytes buffer add remove opposite u a b e =
+taking-back-bytes buffer x remove opposite e =
     record {
       accepted = Steps.number-is (stepBuffer buffer x) y ∙ ap (λ (t : Site). stepOf t y .refusal) next ∙ taken .accepted;
       same-bytes =
@@ -94,11 +94,8 @@ taking-back-bytes buffer add remove opposite u a b e =
           ∙ bytes-of-state buffer here;
     }
   where
-    x : Bytes
-    x = fourBytes add u a b
-
     y : Bytes
-    y = fourBytes remove u a b
+    y = matchingRemove remove x
 
     here : T (isRecord buffer)
     here = Steps.obeyed buffer x e
@@ -107,7 +104,7 @@ taking-back-bytes buffer add remove opposite u a b e =
     next = Steps.next-state buffer x here
 
     taken : TakenBack (stateOf buffer) x y
-    taken = taking-back (stateOf buffer) (Steps.obeyed-sound buffer x e) add remove opposite u a b (sym (Steps.number-is buffer x) ∙ e)
+    taken = taking-back (stateOf buffer) (Steps.obeyed-sound buffer x e) x remove opposite (sym (Steps.number-is buffer x) ∙ e)
 
 -- ---- refusals
 pub refused-same-bytes : Claims.RefusedSameBytes

@@ -12,11 +12,11 @@ use Rattle.state.specs.Site.{Site, Shaped, founding}
 use Rattle.access.specs.Answer.{longest}
 use Rattle.soundness.specs.Sound.{Sound}
 use Rattle.records.specs.Record.{bytesOf, isRecord, stateOf, isSized}
-use Rattle.instructions.specs.Instructions.{Bytes, fourBytes}
+use Rattle.instructions.specs.Instructions.{Bytes}
 use Rattle.refusals.specs.Refusals.{stepNumbers}
 use Rattle.machine.specs.Step.{stepOf, run, questionNumbers, replyOf}
 use Rattle.guarantees.specs.Demand3.{Upheld}
-use Rattle.guarantees.specs.TakingBack.{Opposite}
+use Rattle.guarantees.specs.TakingBack.{Opposite, matchingRemove}
 use Rattle.site_file.specs.Reading.{readNumbers, readOf}
 use Rattle.site_format.specs.Format.{AreBytes}
 use Rattle.label_finder.specs.Finder.{hasLabel, textAt, textLength}
@@ -70,9 +70,8 @@ pub record BytesTakenBack (buffer : List ℕ) (x y : Bytes) : Type 0 where
 
 abbrev pub TakingBackBytes : Type 0
 TakingBackBytes =
-    (buffer : List ℕ) (add remove : ℕ) → Opposite add remove → (u a b : ℕ)
-    → stepNumber buffer (fourBytes add u a b) ≡ 0
-    → BytesTakenBack buffer (fourBytes add u a b) (fourBytes remove u a b)
+    (buffer : List ℕ) (x : Bytes) (remove : ℕ) → Opposite (x .code) remove → stepNumber buffer x ≡ 0
+    → BytesTakenBack buffer x (matchingRemove remove x)
 
 -- ---- "or the refusal, and no byte is changed"
 abbrev pub RefusedSameBytes : Type 0

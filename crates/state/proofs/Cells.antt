@@ -1,16 +1,16 @@
 -- The laws of a set's and a relation's cells, on lists of any length; those of the record (Laws.antt) and of the functions cite them.
 -- Assumes nothing.
-use Prim.Native.Nat.{ℕ, _+_, _*_, _≤_, _<_, zero-le}
+use Prim.Native.Nat.{ℕ, zero, suc, _+_, _*_, _≤_, _<_, zero-le}
 use mathlib.Core.Path.{_≡_, refl, sym, ap, subst, _∙_}
 use mathlib.Core.Logic.{_⊎_, inl, inr}
 use mathlib.Core.Bool.{Bool, true, false, _&&_, cond}
-use mathlib.Core.List.{List}
+use mathlib.Core.List.{List, [], _∷_}
 use native.Mathlib.Omega.{arith}
 use native.Mathlib.Decide.{decLt, ℕ-discrete}
 use borrow.Author.Tests.{lt-ltb, le-ltb, ne-eqb}
 use lib.Dec.{T, ltb, eqb}
 use lib.ListN.{length, getD, set, length-set, replicate, length-replicate, List·getD-eq-default}
-use lib.Seq.{getD-set-same, getD-set-other, set-out, ext-getD}
+use lib.Seq.{getD-set-same, getD-set-other, set-getD, set-out, ext-getD}
 use Rattle.state.specs.Cells.{Pairs, width, member, mark, pair, put}
 use Rattle.state.proofs.Fill.{kept-none}
 
@@ -45,6 +45,20 @@ member-else c i n v = go (ℕ-discrete n i)
     go : Dec (n ≡ i) → (n ≡ i) ⊎ (member (mark c i v) n ≡ member c n)
     go (yes e) = inl e
     go (no f) = inr (member-other c i n v f)
+
+-- a cell that is written, and then as it was
+set-back : (c : List Bool) (i : ℕ) (v : Bool) → set (set c i v) i (getD c i false) ≡ c
+set-back [] i v = refl
+set-back (x ∷ rest) zero v = refl
+set-back (x ∷ rest) (suc i) v = ap (λ (l : List Bool). x ∷ l) (set-back rest i v)
+
+pub mark-back : (c : List Bool) (i : ℕ) (v : Bool) → mark (mark c i v) i (member c i) ≡ c
+unfolding member mark
+mark-back c i v = set-back c i v
+
+pub mark-as-is : (c : List Bool) (i : ℕ) → mark c i (member c i) ≡ c
+unfolding member mark
+mark-as-is c i = set-getD c i false
 
 -- a number of the set has its cell
 member-has-cell : (c : List Bool) (i : ℕ) → T (member c i) → i < length c
@@ -130,6 +144,17 @@ pair-other c i j m n v ne = go (decLt j width) (decLt n width)
         (pair-inside (set c (i * width + j) v) m n hn
         ∙ getD-set-other c (i * width + j) (m * width + n) v false (λ e. let both = cell-of i j m n hj hn e in ne (both .0) (both .1))
         ∙ sym (pair-inside c m n hn))
+
+pub put-back : (c : List Bool) (i j : ℕ) (v : Bool) → put (put c i j v) i j (pair c i j) ≡ c
+unfolding pair put
+put-back c i j v = go (ltb j width)
+  where
+    at : ℕ
+    at = i * width + j
+
+    go : (b : Bool) → cond b (set (cond b (set c at v) c) at (b && getD c at false)) (cond b (set c at v) c) ≡ c
+    go true = set-back c at v
+    go false = refl
 
 -- ---- one pair more, one pair fewer
 -- a pair has its cell

@@ -13,12 +13,12 @@ use lib.ListN.{length, getD}
 use lib.Seq.{ext-getD}
 use Rattle.state.specs.Cells.{Pairs, width, member, mark, pair, put}
 use Rattle.state.specs.Walk.{someMember, somePair, count}
-use Rattle.state.specs.Site.{Kind, user, area, object, limit, members, kindNumber, afterMark, withListed, Relation, owner, definition, structure, import, export, firstKind, cells, related, relationNumber, afterPut, withPair, empty, founding}
+use Rattle.state.specs.Site.{Kind, user, area, object, limit, members, kindNumber, listed, afterMark, withListed, Relation, owner, definition, structure, import, export, firstKind, cells, related, relationNumber, afterPut, withPair, empty, founding}
 use Rattle.state.specs.Laws
 use Rattle.state.specs.Site.{Site}
 use Rattle.state.proofs.Bools.{is-true, holds, fails, not-so, so-not, not-not}
 use Rattle.state.proofs.Walk.{some-found, some-there, count-within}
-use Rattle.state.proofs.Cells.{member-outside, mark-outside, length-mark, member-same, member-other, member-else, member-kept, member-removed, member-ext, pair-inside, pair-outside, pair-beyond, put-outside, put-past, length-put, pair-same, pair-other, pair-has-cell, same-or-other, pair-kept, pair-removed, no-member, no-pair, only-zero, only-zeros}
+use Rattle.state.proofs.Cells.{member-outside, mark-outside, length-mark, member-same, member-other, member-else, member-kept, member-removed, member-ext, mark-back, mark-as-is, pair-inside, pair-outside, pair-beyond, put-outside, put-past, length-put, put-back, pair-same, pair-other, pair-has-cell, same-or-other, pair-kept, pair-removed, no-member, no-pair, only-zero, only-zeros}
 
 -- ---- one of several is written
 -- Things of K are told apart by a number. One of them, k, is written; this is what each, l, is afterwards.
@@ -39,6 +39,15 @@ module _ {K : Type 0} (number : K → ℕ) (named : ℕ → K) (back : (k : K) �
       go : (b : Bool) → eqb (number l) (number k) ≡ b → P (cond b new old)
       go true e = p (same-name l k (eqb-true (number l) (number k) e))
       go false e = q
+
+  -- what is written (f) and then written back (g) is as it was, and what is not written too
+  written-back : (l k : K) (f g : List Bool → List Bool) (old : List Bool) → (l ≡ k → g (f old) ≡ old)
+      → cond (eqb (number l) (number k)) (g (cond (eqb (number l) (number k)) (f old) old)) (cond (eqb (number l) (number k)) (f old) old) ≡ old
+  written-back l k f g old p = go (eqb (number l) (number k)) refl
+    where
+      go : (b : Bool) → eqb (number l) (number k) ≡ b → cond b (g (cond b (f old) old)) (cond b (f old) old) ≡ old
+      go true e = p (same-name l k (eqb-true (number l) (number k) e))
+      go false e = refl
 
 kindNamed : ℕ → Kind
 kindNamed zero = user
@@ -350,6 +359,41 @@ one-record s t ss st same =
     same-fields s t
     (λ k. member-ext (members s k) (members t k) (ss .sets k ∙ sym (st .sets k)) (λ i h. same .lists k i (rw (ss .sets k) at h)))
     (λ r. pair-ext (cells s r) (cells t r) (limit (firstKind r)) (ss .relations r) (st .relations r) (same .pairs r))
+
+-- ---- what is written back
+pub list-back : Laws.ListBack
+list-back s k i v = same-fields (withListed t k i w) s each (λ r. cells-list t k i w r ∙ cells-list s k i v r)
+  where
+    t : Site
+    t = withListed s k i v
+
+    w : Bool
+    w = listed s k i
+
+    each : (l : Kind) → members (withListed t k i w) l ≡ members s l
+    each l =
+        rw (members-list t k i w l, members-list s k i v l)
+        (written-back kindNumber kindNamed kind-back l k (λ (c : List Bool). mark c i v) (λ (c : List Bool). mark c i w) (members s l) (λ e. rw e (mark-back (members s k) i v)))
+
+pub list-as-is : Laws.ListAsIs
+list-as-is s k i = same-fields (withListed s k i (listed s k i)) s each (cells-list s k i (listed s k i))
+  where
+    each : (l : Kind) → members (withListed s k i (listed s k i)) l ≡ members s l
+    each l = each-set (λ (c : List Bool). c ≡ members s l) s k i (listed s k i) l (λ e. rw e (mark-as-is (members s k) i)) refl
+
+pub relate-back : Laws.RelateBack
+relate-back s r i j v = same-fields (withPair t r i j w) s (λ k. members-relate t r i j w k ∙ members-relate s r i j v k) each
+  where
+    t : Site
+    t = withPair s r i j v
+
+    w : Bool
+    w = related s r i j
+
+    each : (q : Relation) → cells (withPair t r i j w) q ≡ cells s q
+    each q =
+        rw (cells-relate t r i j w q, cells-relate s r i j v q)
+        (written-back relationNumber relationNamed relation-back q r (λ (c : List Bool). put c i j v) (λ (c : List Bool). put c i j w) (cells s q) (λ e. rw e (put-back (cells s r) i j v)))
 
 -- ---- a write outside
 pub list-outside : Laws.ListOutside

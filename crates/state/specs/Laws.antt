@@ -1,6 +1,6 @@
--- What is claimed of the readings and updates: reading after writing the same place, another place, another field; what
--- lies outside; and that two records with equal readings are equal. Each claim is a type, which proofs/Laws.antt
--- inhabits under the claim's name.
+-- What is claimed of the readings and updates: reading after writing the same place, another place, another field;
+-- writing back what was read; what lies outside; and that two records with equal readings are equal. Each claim is a
+-- type, which proofs/Laws.antt inhabits under the claim's name.
 use Prim.Native.Nat.{ℕ, _+_, _*_, _/_, _%_, _≤_, _<_}
 use mathlib.Core.Path.{_≡_}
 use mathlib.Core.Bool.{Bool, true, false, _&&_}
@@ -48,6 +48,13 @@ ListKeepsPairs =
     (s : Site) (k : Kind) (i : ℕ) (v : Bool) (r : Relation) (m n : ℕ)
     → related (withListed s k i v) r m n ≡ related s r m n
 
+-- a number that is written, and then written as it was, leaves the record of before; so does one written as it is
+abbrev pub ListBack : Type 0
+ListBack = (s : Site) (k : Kind) (i : ℕ) (v : Bool) → withListed (withListed s k i v) k i (listed s k i) ≡ s
+
+abbrev pub ListAsIs : Type 0
+ListAsIs = (s : Site) (k : Kind) (i : ℕ) → withListed s k i (listed s k i) ≡ s
+
 -- ---- a written pair
 abbrev pub RelatedSame : Type 0
 RelatedSame =
@@ -94,6 +101,10 @@ abbrev pub OthersStay : Type 0
 OthersStay =
     (s : Site) (r t : Relation) (i j m n : ℕ) (v : Bool) → (t ≡ r → m ≡ i → n ≡ j → ⊥) → T (related s t m n)
     → T (related (withPair s r i j v) t m n)
+
+-- a pair that is written, and then written as it was, leaves the record of before
+abbrev pub RelateBack : Type 0
+RelateBack = (s : Site) (r : Relation) (i j : ℕ) (v : Bool) → withPair (withPair s r i j v) r i j (related s r i j) ≡ s
 
 -- ---- a pair put into the cells of a relation by itself, for what fills one before there is a record
 abbrev pub PutSame : Type 0
