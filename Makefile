@@ -25,12 +25,18 @@ install: lib
 
 examples: lib
 	@mkdir -p target/examples
-	@$(CC) $(CFLAGS) -Iinclude examples/handover.c -Ltarget/lib -lpanelrights -o target/examples/handover-c
-	@CARGO_TARGET_DIR=target/cargo cargo build --quiet --locked --release --manifest-path examples/handover-rust/Cargo.toml
-	@cp target/cargo/release/handover target/examples/handover-rust
+	@for name in handover opening; do \
+		$(CC) $(CFLAGS) -Iinclude examples/$$name.c -Ltarget/lib -lpanelrights -o target/examples/$$name-c && \
+		CARGO_TARGET_DIR=target/cargo cargo build --quiet --locked --release \
+			--manifest-path examples/$$name-rust/Cargo.toml && \
+		cp target/cargo/release/$$name target/examples/$$name-rust || exit 1; \
+	done
 	@target/examples/handover-c examples/school.site
+	@printf '\nA school is opened there: opening-c examples/school.site 0 9 10 14 30\n\n'
+	@target/examples/opening-c examples/school.site 0 9 10 14 30
 	@echo
-	@echo 'On a site file of your own: target/examples/handover-c FILE, or handover-rust'
+	@echo 'On a site file of your own: target/examples/handover-c FILE, or handover-rust;'
+	@echo 'target/examples/opening-c FILE ACTIVATOR SCHOOL HALL KEYHOLDER TABLE, or opening-rust'
 
 test:
 	@tests/gate.sh

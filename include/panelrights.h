@@ -7,8 +7,9 @@
  *
  * You check nothing beforehand. Every function takes any bytes, any numbers and any length, and gives one
  * answer or one refusal number. What you must see to is C's own part:
- *   - an instruction is four bytes, and C turns 256 into 0 before it arrives here: test a wider number
- *     first. (An area or object that is asked about has 32 bits: there 256 is no area, and not area 0);
+ *   - the numbers of an instruction, and the activator and parameters of a recipe, are bytes: C turns 256
+ *     into 0 before it arrives here, so test a wider number first. (An area or object that is asked about
+ *     has 32 bits: there 256 is no area, and not area 0);
  *   - a pointer and its length belong together: so many bytes may be read there, and written if the
  *     pointer is not const. With the length 0 the pointer may be NULL;
  *   - the buffers of one call do not overlap;
@@ -25,8 +26,8 @@
  * in a ring, or in themselves. An area may export what it defines, but not import it.
  * A state is sound if whatever it names is listed, each listed user owns an area, each listed area has an
  * owner, each listed object is defined in exactly one area, there is an area, each area has access to what
- * it imports or exports, and no area imports what it defines. From a sound state every instruction leads to
- * a sound one.
+ * it imports or exports, and no area imports what it defines. From a sound state every instruction and every
+ * recipe leads to a sound one.
  *
  * The library does not know who calls it: that the activator is who he says is your program's business.
  */
@@ -44,8 +45,10 @@ enum {
     PANELRIGHTS_USERS = 32,
     PANELRIGHTS_AREAS = 32,
     PANELRIGHTS_OBJECTS = 64,
-    PANELRIGHTS_MOST_STEPS = 8,    /* an object may be lent across at most so many steps */
-    PANELRIGHTS_STATE_BYTES = 8320 /* what panelrights_state_bytes() gives, for an array's length */
+    PANELRIGHTS_MOST_STEPS = 8,         /* an object may be lent across at most so many steps */
+    PANELRIGHTS_STATE_BYTES = 8320,     /* what panelrights_state_bytes() gives, for an array's length */
+    PANELRIGHTS_RECIPE_ENTRY_BYTES = 5, /* how many bytes each instruction of a recipe has */
+    PANELRIGHTS_RECIPE_MOST = 16        /* how many instructions a recipe may have */
 };
 
 /*
@@ -111,8 +114,9 @@ enum panelrights_code {
 
 /*
  * The refusals. Where more than one applies you get the first in the order of the checks: for an
- * instruction 12, 1 to 7 upwards, 15, 8 to 11 upwards; for the access question 12, 2, 4; for a site file
- * 31, then the lowest number. A later version may have more numbers: keep a default case.
+ * instruction 12, 1 to 7 upwards, 15, 8 to 11 upwards; for a recipe 12, 14, then those of its first
+ * instruction that is refused; for the access question 12, 2, 4; for a site file 31, then the lowest number.
+ * A later version may have more numbers: keep a default case.
  *
  * An instruction can be refused as 12, 1, 2 or 3, and besides by its code as
  *   1: 6           2: 4 5 8 9     3: 4 5 6           4: 4 5 7 8     5: 4 5 6       6: 4 5 7 11
@@ -136,6 +140,8 @@ enum panelrights_refusal {
     PANELRIGHTS_WOULD_LOSE_ACCESS = 11, /* an area would lack access to what it imports or exports; code 8: so
                                            long as another area imports b, or any area at all exports it */
     PANELRIGHTS_UNSOUND_STATE = 12,     /* the bytes are no record, or the state is not sound */
+    PANELRIGHTS_RECIPE_FORM = 14,       /* the bytes are no recipe: a length that is not a multiple of 5 from 5 to
+                                           80, a kind above 1, or a value above 3 where the kind is 1 */
     PANELRIGHTS_OWN_IMPORT = 15,        /* code 9: area a defines b itself, so it has nobody to borrow it from */
 
     PANELRIGHTS_FILE_TOO_SHORT = 21,    /* under 28 bytes */
@@ -150,7 +156,8 @@ enum panelrights_refusal {
                                            whose area defines the object */
 
     /* panelrights_founding, panelrights_read_file: the state buffer has another length than a record. (A
-       record of another length is 12 where one is read: panelrights_step, panelrights_access.) */
+       record of another length is 12 where one is read: panelrights_step, panelrights_recipe,
+       panelrights_access.) */
     PANELRIGHTS_BUFFER_LENGTH = 31
 };
 
@@ -174,6 +181,33 @@ uint8_t panelrights_founding(uint8_t *state, size_t state_len);
  * might take out what was there before.
  */
 uint8_t panelrights_step(uint8_t *state, size_t state_len, uint8_t code, uint8_t activator, uint8_t a, uint8_t b);
+
+/* The kind of a number in a recipe. */
+enum panelrights_recipe_kind {
+    PANELRIGHTS_RECIPE_FIXED = 0,    /* the value is the number itself */
+    PANELRIGHTS_RECIPE_PARAMETER = 1 /* the value, 0 to 3, says which of p0 to p3 is the number */
+};
+
+/*
+ * Obeys a recipe, entirely or not at all. A recipe has 1 to 16 instructions of five bytes each: code, kind of a,
+ * value of a, kind of b, value of b. So 5 0 2 1 3 is code 5 (ADD_STRUCTURE) with area 2 as a and p3 as b. The
+ * activator gives each of them. A parameter that no instruction uses may have any value.
+ *
+ * 0, and the record is that of the state after the last instruction; or place * 256 + number, and no byte is
+ * changed. The number is the refusal of the first instruction that is refused in its turn, in the state that
+ * those before it led to, and the place is its own, from 1; those behind it are not looked at. 12 and 14 are the
+ * whole recipe's, and their place is 0: 12 comes first, and is what it is for a step; 14 is decided before any
+ * instruction is obeyed. No instruction gets either. Keep the answer in 16 bits, and compare refusals with
+ * PANELRIGHTS_RECIPE_NUMBER(answer): answer == PANELRIGHTS_NOT_OWNER is never true.
+ *
+ * For codes 1 and 2, b must be 0: kind 0 and value 0, or a parameter that is 0; else it is refused as 2.
+ */
+uint16_t panelrights_recipe(uint8_t *state, size_t state_len, const uint8_t *recipe, size_t recipe_len,
+                            uint8_t activator, uint8_t p0, uint8_t p1, uint8_t p2, uint8_t p3);
+
+/* The two parts of its answer. */
+#define PANELRIGHTS_RECIPE_PLACE(answer) ((uint8_t)((answer) >> 8))
+#define PANELRIGHTS_RECIPE_NUMBER(answer) ((uint8_t)((answer)&0xff))
 
 /* What panelrights_access answers for "no access", and what it adds to a refusal. */
 enum { PANELRIGHTS_NO_ACCESS = 255, PANELRIGHTS_ACCESS_REFUSED = 256 };

@@ -1,6 +1,6 @@
 #!/usr/bin/env bash
-# The cases of tests/cases, over the C interface: instructions and access questions with their answers (machine.txt),
-# and site files with what the reader and the label finder say of each (files.in, files.out). It takes
+# The cases of tests/cases, over the C interface: instructions, recipes and access questions with their answers
+# (machine.txt), and site files with what the reader and the label finder say of each (files.in, files.out). It takes
 # target/lib/libpanelrights.a as `make lib` left it.
 set -euo pipefail
 cd "$(dirname "$0")/.."

@@ -25,7 +25,7 @@ compile_c() {
     quietly gcc -std=c99 -O2 -Wall -Wextra -Werror -pedantic "$@"
 }
 
-checks=(tests/interface/{main,names,machine,records,files,edges,check}.c)
+checks=(tests/interface/{main,names,machine,recipes,forms,agreement,records,files,edges,check}.c)
 
 # The C checks, built with the flags given to the compiler; prints how many there were.
 run_checks() {
@@ -33,11 +33,17 @@ run_checks() {
     "$work/checks" || fail "the checks in C fail (built with $*)"
 }
 
-# Puts the first block of README.md in this language into a file, and what stands from there to the next block into
-# another.
+# The numbers of the list that a definition gives this name, one a line.
+numbers_of() {
+    sed -n "s/^$1 = //p" "$2" | grep -oE '[0-9]+' || fail "$2 does not say $1"
+}
+
+# Puts a block of README.md in this language into a file, and what stands from there to the next block into another: the
+# first block, or the first behind a heading.
 take_readme() {
-    awk -v fence="\`\`\`$1" -v block="$2" -v behind="$3" '
-        place == 0 && $0 == fence { place = 1; next }
+    awk -v fence="\`\`\`$1" -v block="$2" -v behind="$3" -v heading="${4-}" '
+        $0 ~ "^## " heading { found = 1 }
+        place == 0 && found && $0 == fence { place = 1; next }
         place == 1 && $0 == "```" { place = 2; next }
         place == 2 && /^```/ { exit }
         place == 1 { print >block }
@@ -69,14 +75,15 @@ change_school() {
     printf '%b' "$(printf '\\x%s' "$@")" | dd of="$work/changed.site" bs=1 seek="$place" conv=notrunc status=none
 }
 
-# Both programs refuse the changed file with the number, in the same words.
+# The programs of this name, in C and in Rust, refuse in the same words, one line of which is as the pattern says.
 expect_refusal() {
-    local number=$1 ended=0
+    local pattern=$1 program=target/examples/$2 ended=0
+    shift 2
     runs=$((runs + 1))
-    target/examples/handover-rust "$work/changed.site" >"$work/expected" || ended=$?
-    [ "$ended" = 1 ] || fail "refusal $number: the example in Rust ended with $ended"
-    grep -q "^Refused as $number\. [A-Z].*\.$" "$work/expected" || fail "refusal $number: $(cat "$work/expected")"
-    expect 1 "$work/expected" '' target/examples/handover-c "$work/changed.site"
+    "$program-rust" "$@" >"$work/expected" || ended=$?
+    [ "$ended" = 1 ] || fail "$program-rust $*: it ended with $ended and not with 1"
+    grep -qx "$pattern" "$work/expected" || fail "$program-rust $*: it printed $(cat "$work/expected")"
+    expect 1 "$work/expected" '' "$program-c" "$@"
 }
 
 [ -f "$library" ] || fail "$library is not there: run make lib"
@@ -95,17 +102,20 @@ numbered=$(grep -oE 'PANELRIGHTS_[A-Z_]+ = ' include/panelrights.h | sed 's/ = /
 compared=$(sed -nE 's/^ *CHECK_NUMBER\((PANELRIGHTS_[A-Z_]+), [0-9]+\);$/\1/p' tests/interface/names.c | sort)
 [ "$numbered" = "$compared" ] || fail 'tests/interface/names.c has other names than the header gives a number'
 
-# The refusals of the header and of the Rust package are the numbers that the claims allow: those of a step, those of a
-# file, and 31.
+# The refusals of the header and of the Rust package are the numbers that the claims allow: those of a step, of a recipe
+# and of a file, and 31. The first two lists have most numbers in common.
 refusals=$(sed -n '/^enum panelrights_refusal {/,/^};/s/.* = \([0-9]*\).*/\1/p' include/panelrights.h | sort -n)
 allowed=$({
     printf '0\n31\n'
-    sed -n 's/^stepNumbers = //p' crates/refusals/specs/Refusals.antt | grep -oE '[0-9]+'
-    sed -n 's/^readNumbers = //p' crates/site_file/specs/Reading.antt | grep -oE '[0-9]+'
-} | sort -n)
-[ "$refusals" = "$allowed" ] || fail 'the header has other refusals than stepNumbers and readNumbers'
+    numbers_of furtherNumbers crates/refusals/specs/Refusals.antt
+    numbers_of stepNumbers crates/refusals/specs/Refusals.antt
+    numbers_of recipeNumbers crates/recipe_guarantees/specs/Claims.antt
+    numbers_of readNumbers crates/site_file/specs/Reading.antt
+} | sort -un)
+[ "$refusals" = "$allowed" ] || fail 'the header has other refusals than stepNumbers, recipeNumbers and readNumbers'
 packaged=$({ echo 0; sed -nE 's/^    [A-Za-z]+ = ([0-9]+): ".*/\1/p' bindings/rust/src/refusal.rs; } | sort -n)
-[ "$packaged" = "$allowed" ] || fail 'the Rust package has other refusals than stepNumbers and readNumbers'
+[ "$packaged" = "$allowed" ] ||
+    fail 'the Rust package has other refusals than stepNumbers, recipeNumbers and readNumbers'
 
 # The limit of steps is that of the definition, in the header and in the Rust package.
 longest=$(sed -n 's/^longest = //p' crates/access/specs/Answer.antt)
@@ -150,6 +160,14 @@ said=$(sed -n '/prints `/{s/.*prints `\([^`]*\)`.*/\1/p;q}' "$work/behind")
 compile_c "$work/first.c" "${flags[@]}" -o "$work/first"
 printed=$("$work/first") || fail "README.md's program in C fails"
 [ "$printed" = "$said" ] || fail "README.md's program in C prints '$printed', and not '$said'"
+# Its recipe is obeyed where there is a building 7, and refused as 4 at place 2 where there is none.
+take_readme c "$work/recipe.h" "$work/behind" Recipes
+printf '%s\n' '#include <panelrights.h>' 'static uint8_t site[PANELRIGHTS_STATE_BYTES];' \
+    'static uint16_t obey(uint8_t user, uint8_t panel) {' '#include "recipe.h"' 'return answer; }' 'int main(void) {' \
+    'panelrights_founding(site, sizeof site);' 'if (obey(0, 3) != 2 * 256 + 4) return 1;' \
+    'panelrights_step(site, sizeof site, PANELRIGHTS_LIST_AREA, 0, 7, 0);' 'return obey(0, 3) != 0; }' >"$work/recipe.c"
+compile_c "$work/recipe.c" "${flags[@]}" -o "$work/recipe"
+"$work/recipe" || fail "README.md's recipe is not obeyed"
 take_readme rust "$work/lend.rs" "$work/behind"
 mkdir -p "$work/readme/src"
 printf '%s\n' '#![deny(warnings)]' "$(cat "$work/lend.rs")" \
@@ -157,7 +175,7 @@ printf '%s\n' '#![deny(warnings)]' "$(cat "$work/lend.rs")" \
 printf '%s\n' '[package]' 'name = "readme"' 'edition = "2021"' '[dependencies]' \
     "panelrights = { path = \"$PWD/bindings/rust\" }" '[workspace]' >"$work/readme/Cargo.toml"
 quietly cargo run --quiet --offline --manifest-path "$work/readme/Cargo.toml"
-echo "interface: README.md's program in C prints '$said'; its function in Rust is built and called"
+echo "interface: README.md's program in C prints '$said', and its recipe is obeyed; its function in Rust is called"
 
 mkdir "$work/shared"
 quietly gcc -shared -Wl,-z,defs -Wl,--whole-archive "$library" -Wl,--no-whole-archive \
@@ -166,7 +184,8 @@ shared=$(run_checks -Iinclude -L"$work/shared" -Wl,-rpath,"$work/shared" -lpanel
 echo "interface: $installed against the installed copy, $shared against a shared object"
 
 # The Rust package has the same version, also where it is locked.
-manifests=({bindings/rust/Cargo.toml,{bindings/rust,examples/handover-rust,bench,tests/differential}/Cargo.lock})
+manifests=(bindings/rust/Cargo.toml
+    {bindings/rust,examples/{handover,opening}-rust,bench,tests/differential}/Cargo.lock)
 for manifest in "${manifests[@]}"; do
     line=$(sed -n '/^name = "panelrights"$/{n;p}' "$manifest")
     [ "$line" = "version = \"$version\"" ] || fail "$manifest: the package is not of $version"
@@ -189,16 +208,55 @@ for program in target/examples/handover-c target/examples/handover-rust; do
         sh -c '"$1" examples/school.site >/dev/full' sh "$program"
 done
 head -c 27 examples/school.site >"$work/changed.site"
-expect_refusal 21
+expect_refusal 'Refused as 21\. [A-Z].*\.' handover "$work/changed.site"
 # Version 0; a byte too many; 65 definitions; owners at 29; area 32; a pair twice; a label for an unlisted area; the
 # hall in loop 2; panel 2 and not the head office as a borrower, of panel 2's own table.
 for change in '22 0 00' '23 344 00' '24 6 41' '25 16 1d' '26 29 20' '27 31 00' '28 312 09' '29 63 03' '29 78 14 05'; do
     read -ra parts <<<"$change"
     change_school "${parts[@]:1}"
-    expect_refusal "${parts[0]}"
+    expect_refusal "Refused as ${parts[0]}\. [A-Z].*\." handover "$work/changed.site"
 done
-echo "interface: $runs runs of the examples, which in C and in Rust print what is stored for the school, and the same" \
-    'words for each refusal of a file'
+
+usage='usage: opening FILE ACTIVATOR SCHOOL HALL KEYHOLDER TABLE, numbers from 0 to 255'
+for program in target/examples/opening-c target/examples/opening-rust; do
+    expect 0 examples/opening-accepted.out '' "$program" examples/school.site 0 9 10 14 30
+    expect 0 examples/opening-accepted.out '' "$program" examples/school.site 00 009 0000010 14 30
+    expect 1 examples/opening-refused-at-1.out '' "$program" examples/school.site 0 32 10 14 30
+    expect 1 examples/opening-refused-at-4.out '' "$program" examples/school.site 0 9 10 14 20
+    expect 1 examples/opening-refused-at-6.out '' "$program" examples/school.site 5 9 10 14 30
+    expect 1 examples/damaged.out '' "$program" examples/damaged.site 0 9 10 14 30
+    expect 2 /dev/null "$usage" "$program"
+    expect 2 /dev/null "$usage" "$program" examples/school.site 0 9 10 14
+    expect 2 /dev/null "$usage" "$program" examples/school.site 0 9 10 14 30 30
+    for wrong in 256 1000000000000000000000 -1 +1 '' ' 1' 1/ 1: 0x1; do
+        expect 2 /dev/null "$usage" "$program" examples/school.site "$wrong" 9 10 14 30
+        expect 2 /dev/null "$usage" "$program" examples/school.site 0 9 10 14 "$wrong"
+    done
+    expect 2 /dev/null "opening: the file can't be read" "$program" "$work/nowhere" 0 9 10 14 30
+    # shellcheck disable=SC2016 # the inner shell fills in its own arguments
+    expect 2 /dev/null "opening: the output can't be written" \
+        sh -c '"$1" examples/school.site 0 9 10 14 30 >/dev/full' sh "$program"
+done
+# A site of area 1 alone, which user 3 owns.
+printf '\1\0\36\0\1\0\0\0\0\0\0\0\0\0\0\0\34\0\36\0\36\0\36\0\36\0\36\0\3\1' >"$work/lone.site"
+# Each place and number that an opening can be refused with, and a call that is; the stored ones have the others.
+while read -r place number call; do
+    read -ra parts <<<"$call"
+    expect_refusal "Refused as $number\. At instruction $place of the recipe: [A-Z].*\. Nothing was changed\." \
+        opening "${parts[@]}"
+done <<END
+1 2 examples/school.site 32 9 10 14 30
+1 3 examples/school.site 1 9 10 14 30
+1 6 examples/school.site 0 4 10 14 30
+2 2 examples/school.site 0 9 255 14 30
+2 6 examples/school.site 0 9 9 14 30
+4 2 examples/school.site 0 9 10 14 64
+6 4 $work/lone.site 3 9 10 14 30
+8 2 examples/school.site 0 9 10 32 30
+8 6 examples/school.site 0 9 10 0 30
+END
+echo "interface: $runs runs of the examples, which in C and in Rust print what is stored for the school and for" \
+    'openings, and the same words for each refusal of a file or of an opening'
 
 PANELRIGHTS_LIB_DIR=$work/usr/lib quietly cargo test --quiet --locked --manifest-path bindings/rust/Cargo.toml
 passed=$(awk '/^test result: ok/ { passed += $4 } END { print passed + 0 }' "$work/log")

@@ -2,6 +2,7 @@
 
 use crate::borders::{self, Borders};
 use crate::random::{self, Span};
+use crate::recipe::Call;
 use crate::record::{cell, Record, RECORD_BYTES};
 use crate::rows::Rows;
 use crate::rules::{Bytes, NO_ACCESS, REFUSED};
@@ -35,6 +36,25 @@ pub fn step(s: &Record, bytes: Bytes) -> (u8, Record) {
     let asked = || format!("The instruction {bytes:?} in the state of {}", tell(s));
     demand([by_library, refusal, by_ideal].map(u16::from), alike, asked);
     (refusal, after)
+}
+
+/// The answer to the recipe, and the state after it.
+pub fn recipe(s: &Record, call: &Call) -> (u16, Record) {
+    let mut state = s.bytes();
+    let by_library = library::recipe(&mut state, call);
+    let mut rows = Rows::of(s);
+    let by_ideal = ideal::recipe(&mut rows, call);
+    let by_plain = plain::recipe(s, call);
+    let asked = || format!("The {call:?} in the state of {}", tell(s));
+    let same = plain::recipe_asking_once(s, call) == by_plain;
+    assert!(same, "Plain Rust answers otherwise if it asks once. {}", asked());
+    let (answer, after) = match by_plain {
+        Ok(next) => (0, next),
+        Err(answer) => (answer, s.clone()),
+    };
+    let alike = [state == after.bytes(), rows == Rows::of(&after)];
+    demand([by_library, answer, by_ideal], alike, asked);
+    (answer, after)
 }
 
 /// The answer to the access question.
@@ -209,12 +229,11 @@ impl Seen {
 /// Walks of random instructions from the founding state, over few numbers and over all; on the way damaged records, the
 /// access question and files. Then the circles. Gives lines on what was seen.
 pub fn compare(count: u32) -> [String; 5] {
-    const SPANS: [Span; 5] = [[2, 2, 1], [3, 3, 2], [4, 6, 3], [8, 12, 8], random::WHOLE];
     let mut chance = Chance::new(2);
     let mut seen = Seen::default();
     let mut s = Record::founding();
     for i in 0..count {
-        let span = SPANS[(i / 2_000) as usize % SPANS.len()];
+        let span = random::SPANS[(i / 2_000) as usize % random::SPANS.len()];
         if i % 2_000 == 0 {
             s = Record::founding();
         }

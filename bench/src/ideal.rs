@@ -1,6 +1,7 @@
 //! The ideal baseline: document 01 in safe Rust on rows of bits, as fast as it is natural to write. A set of areas is a
 //! number of 32 bits, so a search takes all neighbours of an area at once.
 
+use crate::recipe::{self, Call};
 use crate::rows::{holds, Rows};
 use crate::rules::{self, Bytes, Instruction, AREAS, MOST_STEPS, NO_ACCESS, OBJECTS, REFUSED, USERS};
 
@@ -138,14 +139,23 @@ pub fn step(s: &mut Rows, bytes: Bytes) -> u8 {
 }
 
 fn obeyed(s: &mut Rows, bytes: Bytes) -> Result<(), u8> {
-    let turned = turned(&s.structure);
+    let mut turned = turned(&s.structure);
     if !is_sound(&Moves { s, turned: &turned }) {
         return Err(12);
     }
+    obeyed_if_sound(s, &mut turned, bytes)
+}
+
+/// The same of a sound state. The structure turned round stays that of the state.
+fn obeyed_if_sound(s: &mut Rows, turned: &mut [u32; AREAS], bytes: Bytes) -> Result<(), u8> {
     let x = Instruction::of(bytes)?;
     rules::permit(s, x)?;
     rules::obey(s, x);
-    last_checks(s, &turned, x).inspect_err(|_| rules::obey(s, x.opposite()))
+    last_checks(s, turned, x).inspect_err(|_| rules::obey(s, x.opposite()))?;
+    if let 5 | 6 = x.code {
+        turned[x.b] ^= 1 << x.a;
+    }
+    Ok(())
 }
 
 /// Refusals 10 and 11, of the state after the instruction. The state before was valid, so a search is made only for
@@ -158,6 +168,26 @@ fn last_checks(s: &Rows, turned: &[u32; AREAS], x: Instruction) -> Result<(), u8
         6 if !is_valid(s) => Err(11),
         _ => Ok(()),
     }
+}
+
+/// Obeys the recipe and gives 0, or gives the place and the number of its refusal and leaves the state as it was. Each
+/// instruction leaves a sound state, so only the given one is asked whether it is sound.
+pub fn recipe(s: &mut Rows, call: &Call) -> u16 {
+    let mut turned = turned(&s.structure);
+    if !is_sound(&Moves { s, turned: &turned }) {
+        return 12;
+    }
+    let Some(instructions) = call.instructions() else {
+        return 14;
+    };
+    let given = *s;
+    for (place, bytes) in (1..).zip(instructions) {
+        if let Err(refusal) = obeyed_if_sound(s, &mut turned, bytes) {
+            *s = given;
+            return recipe::refused(place, refusal);
+        }
+    }
+    0
 }
 
 /// The number of steps, 255 for no access, or 256 and the refusal.

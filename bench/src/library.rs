@@ -1,5 +1,6 @@
 //! The library as a C program calls it: the functions of include/panelrights.h, on the bytes of a record.
 
+use crate::recipe::Call;
 use crate::record::RecordBytes;
 use crate::rules::Bytes;
 use panelrights::sys;
@@ -8,6 +9,26 @@ use panelrights::sys;
 pub fn step(state: &mut RecordBytes, [code, activator, a, b]: Bytes) -> u8 {
     // SAFETY: the pointer and the length are those of an array that is borrowed for the call.
     unsafe { sys::panelrights_step(state.as_mut_ptr(), state.len(), code, activator, a, b) }
+}
+
+/// Obeys the recipe and gives 0, or gives place * 256 + refusal and leaves the record as it was.
+pub fn recipe(state: &mut RecordBytes, call: &Call) -> u16 {
+    let (recipe, [p0, p1, p2, p3]) = (&call.recipe, call.parameters);
+    let (state, state_len) = (state.as_mut_ptr(), state.len());
+    // SAFETY: as above, for both; a borrowed vector and an array borrowed to be written don't overlap.
+    unsafe {
+        sys::panelrights_recipe(
+            state,
+            state_len,
+            recipe.as_ptr(),
+            recipe.len(),
+            call.activator,
+            p0,
+            p1,
+            p2,
+            p3,
+        )
+    }
 }
 
 /// The number of steps, 255 for no access, or 256 and the refusal.

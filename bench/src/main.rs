@@ -1,21 +1,26 @@
 //! Measures the library over the C interface beside two baselines in Rust, one plain and one ideal, in one run: the
-//! step, the access question and the reader of site files; and the program PanelRights beside a session in plain Rust.
-//! Before that it compares the answers of the three on random instructions; an argument gives their number.
+//! step, the recipe, the access question and the reader of site files; and the program PanelRights beside a session in
+//! plain Rust. Before that it compares the answers of the three on random instructions, of which an argument gives the
+//! number, and on half as many random recipes.
 
 #![deny(unsafe_code)]
 
 mod agree;
+mod agree_recipes;
 mod borders;
 mod files;
 mod ideal;
 mod ideal_reader;
 #[allow(unsafe_code)]
 mod library;
+mod openings;
 mod plain;
 mod plain_reader;
 mod program;
 mod races;
 mod random;
+mod random_recipe;
+mod recipe;
 mod record;
 mod report;
 mod rows;
@@ -40,6 +45,9 @@ fn main() {
             .say("bench note: built without bench/.cargo/config.toml, which cargo reads when it runs in bench".into());
     }
     agree::compare(compared).into_iter().for_each(|line| report.say(line));
+    agree_recipes::compare(compared / 2)
+        .into_iter()
+        .for_each(|line| report.say(line));
     let states = States::new();
     let mut races = races::all(&states);
     timing::run(&mut races);

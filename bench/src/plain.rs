@@ -1,5 +1,6 @@
 //! The plain baseline: document 01 in plain Rust on bools, with a queue for the search.
 
+use crate::recipe::{self, Call};
 use crate::record::{cell, Record};
 use crate::rules::{self, Bytes, Instruction, AREAS, MOST_STEPS, NO_ACCESS, OBJECTS, REFUSED, USERS};
 
@@ -104,6 +105,11 @@ pub fn step(s: &Record, bytes: Bytes) -> Result<Record, u8> {
     if !is_sound(s) {
         return Err(12);
     }
+    step_if_sound(s, bytes)
+}
+
+/// The same of a sound state.
+fn step_if_sound(s: &Record, bytes: Bytes) -> Result<Record, u8> {
     let x = Instruction::of(bytes)?;
     rules::permit(s, x)?;
     let mut next = s.clone();
@@ -113,6 +119,36 @@ pub fn step(s: &Record, bytes: Bytes) -> Result<Record, u8> {
         6 | 8 | 10 | 12 if !is_valid(&next) => Err(11),
         _ => Ok(next),
     }
+}
+
+/// The state after the recipe, or the place and the number of its refusal. Each instruction is a step of its own, which
+/// asks for soundness as any step does.
+pub fn recipe(s: &Record, call: &Call) -> Result<Record, u16> {
+    let Some(instructions) = call.instructions() else {
+        return Err(if is_sound(s) { 14 } else { 12 });
+    };
+    one_by_one(s, instructions, step)
+}
+
+/// The same, but only the given state is asked whether it is sound: for the others it is taken on trust.
+pub fn recipe_asking_once(s: &Record, call: &Call) -> Result<Record, u16> {
+    if !is_sound(s) {
+        return Err(12);
+    }
+    let instructions = call.instructions().ok_or(14_u16)?;
+    one_by_one(s, instructions, step_if_sound)
+}
+
+fn one_by_one(
+    s: &Record,
+    instructions: impl Iterator<Item = Bytes>,
+    step: impl Fn(&Record, Bytes) -> Result<Record, u8>,
+) -> Result<Record, u16> {
+    let mut next = s.clone();
+    for (place, bytes) in (1..).zip(instructions) {
+        next = step(&next, bytes).map_err(|refusal| recipe::refused(place, refusal))?;
+    }
+    Ok(next)
 }
 
 /// The number of steps, 255 for no access, or 256 and the refusal.

@@ -1,13 +1,16 @@
-//! What is timed: the step, the access question and the reader, over the C interface and beside the two baselines.
+//! What is timed: the step, the recipe, the access question and the reader, over the C interface and beside the two
+//! baselines.
 //!
 //! In the time is what a caller pays. The library gets the bytes of a record by pointer and length, and tests them; the
 //! baselines get a state of their own, which can't be anything else. Nobody keeps anything between calls.
 
+use crate::openings::{imports, misformed, refused_last, two_schools};
+use crate::recipe::{refused, Call};
 use crate::record::{Record, RECORD_BYTES};
-use crate::report::{LIMIT, SMALL_LIMIT};
+use crate::report::{LIMIT, RECIPE_LIMIT, SMALL_LIMIT};
 use crate::rows::Rows;
-use crate::rules::{Bytes, NO_ACCESS};
-use crate::states::States;
+use crate::rules::{Bytes, MOST_STEPS};
+use crate::states::{farthest, States};
 use crate::timing::Race;
 use crate::{agree, files, ideal, ideal_reader, library, plain, plain_reader, random};
 use chance::Chance;
@@ -15,8 +18,8 @@ use std::hint::black_box;
 use std::rc::Rc;
 
 pub fn all(s: &States) -> Vec<Race<'_>> {
-    let races = steps(s).into_iter().chain(questions(s)).chain(readings(s));
-    races.collect()
+    let races = steps(s).into_iter().chain(recipes(s));
+    races.chain(questions(s)).chain(readings(s)).collect()
 }
 
 /// An instruction with this code that the state accepts.
@@ -28,17 +31,6 @@ fn acceptable(s: &Record, code: u8) -> Bytes {
             return bytes;
         }
     }
-}
-
-/// The area and object with the most steps between the area and the one that defines the object.
-fn farthest(s: &Record) -> (u32, u32, u16) {
-    let rows = Rows::of(s);
-    let all = (0..32).flat_map(|area| (0..64).map(move |object| (area, object)));
-    let answers = all.map(|(area, object)| (area, object, ideal::access(&rows, area, object)));
-    answers
-        .filter(|answer| answer.2 < u16::from(NO_ACCESS))
-        .max_by_key(|answer| answer.2)
-        .expect("an object is listed")
 }
 
 /// A turn makes the next state of one that stays as it was. Library and ideal write in place, so they get a copy of the
@@ -76,13 +68,60 @@ fn steps(s: &States) -> [Race<'_>; 9] {
     })
 }
 
+/// Beside each recipe goes its first instruction alone, as a step of the library.
+fn recipes(s: &States) -> [Race<'_>; 7] {
+    let [dense, chain, random] = [&s.spare.dense, &s.spare.chain, &s.spare.random];
+    let limit = Some(RECIPE_LIMIT);
+    let at_last = refused(16, 6);
+    let cases: [(&str, &Record, Call, u16, Option<f64>); 7] = [
+        ("dense, 16 adds", dense, two_schools(dense), 0, None),
+        ("chain, 16 adds", chain, two_schools(chain), 0, limit),
+        ("random, 16 adds", random, two_schools(random), 0, limit),
+        ("small, 16 adds", &s.small, two_schools(&s.small), 0, limit),
+        ("stock, 16 imports", &s.stock, imports(), 0, None),
+        ("chain, refused at 16", chain, refused_last(chain), at_last, None),
+        ("chain, refused as 14", chain, misformed(chain), 14, None),
+    ];
+    cases.map(|(name, s, call, expected, limit)| recipe_race(name, s, call, expected, limit))
+}
+
+/// Copies of the state as for a step.
+fn recipe_race<'a>(name: &str, s: &'a Record, call: Call, expected: u16, limit: Option<f64>) -> Race<'a> {
+    assert_eq!(agree::recipe(s, &call).0, expected, "{name}: another answer");
+    let first = call.first();
+    assert_eq!(agree::step(s, first).0, 0, "{name}: the first instruction is refused");
+    let (record, rows) = (s.bytes(), Rows::of(s));
+    let (mut state, mut state_of_one) = (record, record);
+    let call = Rc::new(call);
+    let [for_plain, for_ideal, for_once] = [call.clone(), call.clone(), call.clone()];
+    let by_library = move || {
+        state.copy_from_slice(black_box(&record));
+        library::recipe(&mut state, black_box(&call))
+    };
+    let by_plain = move || plain::recipe(black_box(s), black_box(&for_plain));
+    let asking_once = move || plain::recipe_asking_once(black_box(s), black_box(&for_once));
+    let by_ideal = move || {
+        let mut state = *black_box(&rows);
+        let answer = ideal::recipe(&mut state, black_box(&for_ideal));
+        black_box(&state);
+        answer
+    };
+    let one_add = move || {
+        state_of_one.copy_from_slice(black_box(&record));
+        library::step(&mut state_of_one, black_box(first))
+    };
+    Race::new(format!("recipe {name}"), None, by_library, by_plain, by_ideal)
+        .beside("one add", limit, one_add)
+        .beside("plain asking once", None, asking_once)
+}
+
 /// The access question asks first whether the state is sound, as document 01 has it: that is in the time, of all three.
 fn questions(s: &States) -> [Race<'_>; 5] {
     let cases = [
         ("chain outward", &s.chain, (15, 62, 8)),
         ("chain inward", &s.chain, (16, 63, 8)),
         ("dense", &s.dense, (31, 9, 1)),
-        ("random", &s.random, farthest(&s.random)),
+        ("random", &s.random, farthest(&s.random, MOST_STEPS)),
         ("small", &s.small, (0, 9, 2)),
     ];
     cases.map(|(name, s, (area, object, expected))| {

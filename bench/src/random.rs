@@ -9,11 +9,14 @@ pub type Span = [usize; 3];
 
 pub const WHOLE: Span = [32, 32, 64];
 
+/// By turns, in a comparison.
+pub const SPANS: [Span; 5] = [[2, 2, 1], [3, 3, 2], [4, 6, 3], [8, 12, 8], WHOLE];
+
 /// A number that is listed if a few tries find one, else any below the span.
-fn listed(chance: &mut Chance, list: &[bool], span: usize) -> u8 {
+fn listed(chance: &mut Chance, s: &impl Site, place: fn(usize) -> Place, span: usize) -> u8 {
     let mut number = chance.below(span);
     for _ in 0..8 {
-        if list[number] {
+        if s.has(place(number)) {
             break;
         }
         number = chance.below(span);
@@ -22,27 +25,27 @@ fn listed(chance: &mut Chance, list: &[bool], span: usize) -> u8 {
 }
 
 /// An instruction within the span: most often one whose numbers are listed, at times any.
-pub fn instruction(chance: &mut Chance, s: &Record, [users, areas, objects]: Span) -> Bytes {
+pub fn instruction(chance: &mut Chance, s: &impl Site, [users, areas, objects]: Span) -> Bytes {
     let code = 1 + chance.below(12) as u8;
     let any = chance.once_in(8);
     let activator = if any {
         chance.below(users) as u8
     } else {
-        listed(chance, &s.users, users)
+        listed(chance, s, Place::User, users)
     };
     let a = if any || code == 1 {
         chance.below(areas) as u8
     } else {
-        listed(chance, &s.areas, areas)
+        listed(chance, s, Place::Area, areas)
     };
     let b = match code {
         1 | 2 => 0,
         3 => chance.below(users) as u8,
-        4 => listed(chance, &s.users, users),
-        5 | 6 => listed(chance, &s.areas, areas),
+        4 => listed(chance, s, Place::User, users),
+        5 | 6 => listed(chance, s, Place::Area, areas),
         7 => chance.below(objects) as u8,
         _ if any => chance.below(objects) as u8,
-        _ => listed(chance, &s.objects, objects),
+        _ => listed(chance, s, Place::Object, objects),
     };
     [code, activator, a, b]
 }

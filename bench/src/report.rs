@@ -10,10 +10,14 @@ const DOCUMENT: &str = concat!(env!("CARGO_MANIFEST_DIR"), "/../docs/BENCHMARKS.
 pub const LIMIT: f64 = 1.3;
 pub const SMALL_LIMIT: f64 = 1.6;
 
+/// How many times what one add takes a recipe of 16 adds may take: on the chain, random and small states.
+pub const RECIPE_LIMIT: f64 = 4.0;
+
 #[derive(Default)]
 pub struct Report {
     lines: Vec<String>,
-    over: Vec<String>,
+    /// What is over its limit: steps (0), and recipes beside one add (1).
+    over: [Vec<String>; 2],
 }
 
 impl Report {
@@ -27,22 +31,39 @@ impl Report {
         let name = &race.name;
         let [library, plain, ideal] = race.times();
         let (by_plain, by_ideal) = (library / plain, library / ideal);
-        self.say(format!(
+        let mut line = format!(
             "bench {name}: library {library:.2} us, plain {plain:.2} us, ideal {ideal:.2} us, \
              ratio {by_plain:.2}, {by_ideal:.2}"
-        ));
-        if race.limit.is_some_and(|limit| by_plain > limit) {
-            self.over.push(format!("{name} ({by_plain:.2})"));
+        );
+        self.hold(0, name, by_plain, race.limit);
+        for (other, time, limit) in race.others() {
+            let ratio = library / time;
+            line += &format!("; {other} {time:.2} us, ratio {ratio:.2}");
+            self.hold(1, name, ratio, limit);
+        }
+        self.say(line);
+    }
+
+    /// Keeps in mind what is over its limit.
+    fn hold(&mut self, kind: usize, name: &str, ratio: f64, limit: Option<f64>) {
+        if limit.is_some_and(|limit| ratio > limit) {
+            self.over[kind].push(format!("{name} ({ratio:.2})"));
         }
     }
 
-    /// The line on the limits.
+    /// The lines on the limits.
     pub fn limits(&mut self) {
-        let over = self.over.join("; ");
-        let verdict = if over.is_empty() { "held" } else { "not held by " };
+        let [steps, recipes] = self.over.each_ref().map(|over| match over.join("; ") {
+            none if none.is_empty() => "held".to_string(),
+            over => format!("not held by {over}"),
+        });
         self.say(format!(
             "bench limits: library at most {LIMIT:.2} plain for a step on dense, chain and random, \
-             {SMALL_LIMIT:.2} on small: {verdict}{over}"
+             {SMALL_LIMIT:.2} on small: {steps}"
+        ));
+        self.say(format!(
+            "bench limits: library at most {RECIPE_LIMIT:.2} times one add for 16 adds on chain, random and small: \
+             {recipes}"
         ));
     }
 
@@ -57,6 +78,7 @@ impl Report {
             round = ROUND.as_millis(),
             limit = LIMIT,
             small_limit = SMALL_LIMIT,
+            recipe_limit = RECIPE_LIMIT,
             lines = self.lines.join("\n")
         );
         fs::write(DOCUMENT, text).expect("docs/BENCHMARKS.md can be written");

@@ -1,9 +1,10 @@
 //! The states that are timed. All are sound.
 
-use crate::plain;
-use crate::random;
+use crate::random::{self, Span, WHOLE};
 use crate::record::{cell, Record};
-use crate::rules::{Bytes, AREAS, MOST_STEPS, OBJECTS};
+use crate::rows::Rows;
+use crate::rules::{Bytes, MOST_STEPS};
+use crate::{ideal, plain};
 use chance::Chance;
 
 pub struct States {
@@ -12,45 +13,80 @@ pub struct States {
     pub chain: Record,
     pub random: Record,
     pub small: Record,
+    pub stock: Record,
+    pub spare: Spare,
+}
+
+/// States with numbers to spare for what a recipe lists: areas 28 to 31 and objects 62 and 63.
+pub struct Spare {
+    pub dense: Record,
+    pub chain: Record,
+    pub random: Record,
 }
 
 impl States {
     pub fn new() -> States {
+        const SPARE: Span = [32, 28, 62];
         States {
-            largest: largest(),
+            largest: largest(WHOLE),
             dense: dense(),
-            chain: chain(),
-            random: random(6_000),
+            chain: chain(WHOLE),
+            random: random(6_000, WHOLE),
             small: small(),
+            stock: stock(),
+            spare: Spare {
+                dense: largest(SPARE),
+                chain: chain(SPARE),
+                random: random(6_000, SPARE),
+            },
         }
     }
 }
 
-/// All users, areas and objects, each user an owner of each area, and the objects defined by turns in areas 0 to 31.
-fn full() -> Record {
+/// The area and object with the most steps between the area and the one that defines the object, up to so many.
+pub fn farthest(s: &Record, most: u8) -> (u32, u32, u16) {
+    let rows = Rows::of(s);
+    let all = (0..32).flat_map(|area| (0..64).map(move |object| (area, object)));
+    let answers = all.map(|(area, object)| (area, object, ideal::access(&rows, area, object)));
+    answers
+        .filter(|answer| answer.2 <= u16::from(most))
+        .max_by_key(|answer| answer.2)
+        .expect("an object is listed")
+}
+
+/// All users, areas and objects of the span, each user an owner of each area, and the objects defined by turns in the
+/// areas.
+fn full([users, areas, objects]: Span) -> Record {
     let mut s = Record::empty();
-    s.users.fill(true);
-    s.areas.fill(true);
-    s.objects.fill(true);
-    s.owners.fill(true);
-    for o in 0..OBJECTS {
-        s.definitions[cell(o, o % AREAS)] = true;
+    s.users[..users].fill(true);
+    s.areas[..areas].fill(true);
+    s.objects[..objects].fill(true);
+    for u in 0..users {
+        s.owners[cell(u, 0)..cell(u, areas)].fill(true);
+    }
+    for o in 0..objects {
+        s.definitions[cell(o, o % areas)] = true;
     }
     s
 }
 
-/// Every structure and export pair, and every import but the definers' own: no state has a longer file.
-fn largest() -> Record {
-    let mut s = full();
-    s.structure.fill(true);
-    s.imports = s.definitions.map(|defined| !defined);
-    s.exports.fill(true);
+/// Every structure and export pair, and every import but the definers' own: no state over the span has a longer file.
+fn largest(span @ [_, areas, objects]: Span) -> Record {
+    let mut s = full(span);
+    for a in 0..areas {
+        s.structure[cell(a, 0)..cell(a, areas)].fill(true);
+    }
+    for o in 0..objects {
+        s.exports[cell(o, 0)..cell(o, areas)].fill(true);
+        s.imports[cell(o, 0)..cell(o, areas)].fill(true);
+        s.imports[cell(o, o % areas)] = false;
+    }
     s
 }
 
 /// The largest but for one import.
 fn dense() -> Record {
-    let mut s = largest();
+    let mut s = largest(WHOLE);
     s.imports[cell(63, 30)] = false;
     s
 }
@@ -58,20 +94,20 @@ fn dense() -> Record {
 /// Area a lies in area a + 1. Each object goes along 8 steps: even ones outward by exports, odd ones inward by imports.
 /// The first objects start at the ends of the row, the next ones beside them, up to the areas that are 8 steps short of
 /// the other end.
-fn chain() -> Record {
+fn chain(span @ [_, areas, objects]: Span) -> Record {
     let steps = usize::from(MOST_STEPS);
-    let mut s = full();
+    let mut s = full(span);
     s.definitions.fill(false);
-    for a in 0..AREAS - 1 {
+    for a in 0..areas - 1 {
         s.structure[cell(a, a + 1)] = true;
     }
-    for o in 0..OBJECTS {
-        let start = o / 2 % (AREAS - steps);
+    for o in 0..objects {
+        let start = o / 2 % (areas - steps);
         if o % 2 == 0 {
             s.definitions[cell(o, start)] = true;
             (start..start + steps).for_each(|a| s.exports[cell(o, a)] = true);
         } else {
-            let start = AREAS - 1 - start;
+            let start = areas - 1 - start;
             s.definitions[cell(o, start)] = true;
             (start - steps..start).for_each(|a| s.imports[cell(o, a)] = true);
         }
@@ -79,13 +115,13 @@ fn chain() -> Record {
     s
 }
 
-/// What random instructions lead to from the founding state, with so many of them accepted.
-fn random(accepted: u32) -> Record {
+/// What random instructions over the span lead to from the founding state, with so many of them accepted.
+fn random(accepted: u32, span: Span) -> Record {
     let mut chance = Chance::new(1);
     let mut s = Record::founding();
     let mut done = 0;
     while done < accepted {
-        let bytes = random::instruction(&mut chance, &s, random::WHOLE);
+        let bytes = random::instruction(&mut chance, &s, span);
         // Fewer removes than adds, so that the state grows.
         let adds = bytes[0] % 2 == 1;
         if !adds && chance.once_in(3) {
@@ -115,6 +151,16 @@ fn small() -> Record {
     for bytes in session {
         // Line 6 is refused.
         s = plain::step(&s, bytes).unwrap_or(s);
+    }
+    s
+}
+
+/// Small, and objects 16 to 31, which area 2 defines.
+fn stock() -> Record {
+    let mut s = small();
+    for o in 16..32 {
+        s.objects[o] = true;
+        s.definitions[cell(o, 2)] = true;
     }
     s
 }

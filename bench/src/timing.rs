@@ -48,6 +48,15 @@ pub struct Race<'a> {
     pub limit: Option<f64>,
     /// Library, plain, ideal.
     runners: [Runner<'a>; 3],
+    beside: Vec<Beside<'a>>,
+}
+
+/// What else the library is set beside.
+struct Beside<'a> {
+    name: &'static str,
+    /// How many times its time the library may take.
+    limit: Option<f64>,
+    runner: Runner<'a>,
 }
 
 impl<'a> Race<'a> {
@@ -59,17 +68,37 @@ impl<'a> Race<'a> {
         ideal: impl FnMut() -> C + 'a,
     ) -> Race<'a> {
         let runners = [Runner::new(library), Runner::new(plain), Runner::new(ideal)];
-        Race { name, limit, runners }
+        Race {
+            name,
+            limit,
+            runners,
+            beside: Vec::new(),
+        }
     }
 
-    /// The three go by turns, so that a slow moment of the machine meets all alike.
+    /// With another call on the line.
+    pub fn beside<T>(mut self, name: &'static str, limit: Option<f64>, call: impl FnMut() -> T + 'a) -> Race<'a> {
+        let runner = Runner::new(call);
+        self.beside.push(Beside { name, limit, runner });
+        self
+    }
+
+    /// All go by turns, so that a slow moment of the machine meets all alike.
     fn round(&mut self) {
-        self.runners.iter_mut().for_each(Runner::round);
+        let beside = self.beside.iter_mut().map(|beside| &mut beside.runner);
+        self.runners.iter_mut().chain(beside).for_each(Runner::round);
     }
 
     /// The least time of a call for each of the three, in microseconds.
     pub fn times(&self) -> [f64; 3] {
         self.runners.each_ref().map(|runner| runner.least)
+    }
+
+    /// The other calls on the line: the name, the least time, and the limit.
+    pub fn others(&self) -> impl Iterator<Item = (&str, f64, Option<f64>)> {
+        self.beside
+            .iter()
+            .map(|beside| (beside.name, beside.runner.least, beside.limit))
     }
 }
 

@@ -3,6 +3,7 @@
 //! Document 02, point 2: "The guarantee that borrowed tables stay now speaks of chains within that limit."
 
 use crate::access::shortest_chain;
+use crate::recipes::{counted, Command};
 use crate::state::{before, State};
 use std::collections::BTreeSet;
 
@@ -22,6 +23,13 @@ pub fn lending_guarantee(before_list: &State, list: &[[u8; 4]], after: &State, a
     same_set("export", &before_list.exports, &after.exports, area)?;
     is_traced("imports", &before_list.imports, after, area)?;
     is_traced("exports", &before_list.exports, after, area)
+}
+
+/// The same for a list with recipes in it.
+/// Document 02, point 1: "For the lending guarantee an accepted recipe counts as its instructions and a refused one as
+/// none."
+pub fn lending_guarantee_of_commands(start: &State, list: &[Command], after: &State, area: u8) -> Result<(), String> {
+    lending_guarantee(start, &counted(start, list), after, area)
 }
 
 /// "An area's owners at the start are the users in its owner pairs there; an instruction's activator is its second byte, in a refused

@@ -1,5 +1,5 @@
-//! The site access state machine of document 01, with points 2, 4 and 7 of document 02, written a second time: sets of pairs instead
-//! of arrays of cells.
+//! The site access state machine of document 01, with points 1, 2, 4 and 7 of document 02, written a second time: sets
+//! of pairs instead of arrays of cells.
 //!
 //! Each module follows one section of document 01 or one point of document 02, and each function quotes the sentence that it stands
 //! for; it is document 01's where no other document is named. docs/READINGS.md says how open places of both documents are read.
@@ -12,6 +12,7 @@ mod instructions;
 mod lending;
 mod program;
 mod question;
+mod recipes;
 mod record;
 mod refusals;
 mod site_file;
@@ -21,9 +22,11 @@ mod state;
 mod taking_back;
 
 pub use instructions::{run, step, step_record};
-pub use lending::lending_guarantee;
+pub use lending::{lending_guarantee, lending_guarantee_of_commands};
 pub use program::transcript;
 pub use question::{access, lowest_mark};
+pub use recipes::{counted, misformed, order_of_recipe_checks, recipe, recipe_instructions, recipe_record, run_commands};
+pub use recipes::{Call, Command, Misformed, RecipeAnswer};
 pub use record::{from_record, to_record, RECORD_BYTES};
 pub use refusals::order_of_checks;
 pub use site_file::{label, read_file, write_file, Labels};

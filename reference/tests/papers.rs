@@ -1,4 +1,4 @@
-//! The examples of document 01, points 2, 4 and 7 of document 02, and the readings 1 to 14 of docs/READINGS.md.
+//! The examples of document 01, points 1, 2, 4 and 7 of document 02, and the readings 1 to 15 of docs/READINGS.md.
 
 use reference::*;
 use std::collections::{BTreeMap, BTreeSet};
@@ -2313,6 +2313,1058 @@ fn point_7_after_lists_in_disorder() {
         }
     }
     assert_eq!(taken, BTreeSet::from([1, 3, 5, 7, 9, 11]));
+}
+
+// Document 02, point 1: site recipes
+
+/// What comes with a recipe.
+fn call(activator: u8, parameters: [u8; 4]) -> Call {
+    Call { activator, parameters }
+}
+
+/// Parameters that are 2 wherever an instruction uses one.
+const UNUSED: [u8; 4] = [255; 4];
+
+/// An instruction of a recipe with fixed values.
+fn fixed(code: u8, a: u8, b: u8) -> [u8; 5] {
+    [code, 0, a, 0, b]
+}
+
+/// Asserts the number and the place at the state and on its record, and that both stay.
+fn recipe_refused(state: &State, bytes: &[u8], call: Call, number: u8, place: u8) {
+    let answer = RecipeAnswer { number, place };
+    assert_eq!(recipe(state, bytes, &call), (answer, state.clone()), "{bytes:?} with {call:?}");
+    let record = to_record(state);
+    assert_eq!(recipe_record(&record, bytes, &call), (answer, record));
+}
+
+/// Asserts that the recipe is accepted at the state and on its record, and hands the next state back.
+fn recipe_accepted(state: &State, bytes: &[u8], call: Call) -> State {
+    let (answer, next) = recipe(state, bytes, &call);
+    assert_eq!(answer, RecipeAnswer { number: 0, place: 0 }, "{bytes:?} with {call:?}");
+    assert_eq!(recipe_record(&to_record(state), bytes, &call), (answer, to_record(&next)));
+    assert!(next.is_sound());
+    next
+}
+
+/// Asserts that the recipe is 14 in the way given, whatever comes with the call.
+fn is_14(bytes: &[u8], way: Misformed) {
+    assert_eq!(misformed(bytes), Some(way), "{bytes:?}");
+    for call in [call(0, [0; 4]), call(5, [0, 1, 2, 3]), call(255, UNUSED)] {
+        assert_eq!(recipe_instructions(bytes, &call), None);
+        recipe_refused(&State::founding(), bytes, call, 14, 0);
+    }
+}
+
+/// A school in area 0. Parameter 0 is its area, 1 the area of its hall, 2 the keyholder and 3 the table.
+const SCHOOL: [[u8; 5]; 9] = [
+    [1, 1, 0, 0, 0],  // list the school
+    [1, 1, 1, 0, 0],  // list the hall
+    [5, 1, 1, 1, 0],  // the hall in the school
+    [7, 1, 0, 1, 3],  // define the table in the school
+    [9, 1, 1, 1, 3],  // the hall imports it
+    [5, 1, 0, 0, 0],  // the school in area 0
+    [11, 1, 0, 1, 3], // the school exports the table
+    [3, 1, 0, 1, 2],  // the keyholder owns the school
+    [3, 1, 1, 1, 2],  // and the hall
+];
+
+/// Document 02, point 1: "Opening a school means the same nine instructions each time".
+#[test]
+fn point_1_opening_a_school() {
+    let opened = recipe_accepted(&State::founding(), &SCHOOL.concat(), call(0, [5, 6, 4, 9]));
+    let by_hand = State {
+        users: BTreeSet::from([0, 4]),
+        areas: BTreeSet::from([0, 5, 6]),
+        objects: BTreeSet::from([9]),
+        owners: BTreeSet::from([(0, 0), (0, 5), (0, 6), (4, 5), (4, 6)]),
+        definitions: BTreeSet::from([(9, 5)]),
+        structure: BTreeSet::from([(5, 0), (6, 5)]),
+        imports: BTreeSet::from([(9, 6)]),
+        exports: BTreeSet::from([(9, 5)]),
+    };
+    assert_eq!(opened, by_hand);
+    for (area, steps) in [(5, 0), (6, 1), (0, 1)] {
+        assert_eq!(access(&opened, area, 9), Ok(Some(steps)));
+    }
+    // a second school by the same bytes
+    let both = recipe_accepted(&opened, &SCHOOL.concat(), call(0, [31, 7, 4, 63]));
+    assert_eq!(both.users, BTreeSet::from([0, 4]));
+    assert_eq!(both.areas, BTreeSet::from([0, 5, 6, 7, 31]));
+    assert_eq!(both.definitions, BTreeSet::from([(9, 5), (63, 31)]));
+    assert_eq!(both.structure, BTreeSet::from([(5, 0), (6, 5), (7, 31), (31, 0)]));
+    assert_eq!(both.imports, BTreeSet::from([(9, 6), (63, 7)]));
+    assert_eq!(both.exports, BTreeSet::from([(9, 5), (63, 31)]));
+    recipe_refused(&both, &SCHOOL.concat(), call(0, [5, 6, 4, 9]), 6, 1);
+}
+
+/// Document 02, point 1: "Each instruction is five bytes"; what the nine are with the call.
+#[test]
+fn point_1_nine_instructions_of_a_school() {
+    let nine = [
+        [1, 0, 5, 0],
+        [1, 0, 6, 0],
+        [5, 0, 6, 5],
+        [7, 0, 5, 9],
+        [9, 0, 6, 9],
+        [5, 0, 5, 0],
+        [11, 0, 5, 9],
+        [3, 0, 5, 4],
+        [3, 0, 6, 4],
+    ];
+    let with = call(0, [5, 6, 4, 9]);
+    assert_eq!(recipe_instructions(&SCHOOL.concat(), &with), Some(nine.to_vec()));
+    let opened = recipe_accepted(&State::founding(), &SCHOOL.concat(), with);
+    assert_eq!(from_f(&nine), opened); // singly they give the same
+    let by_8 = nine.map(|[code, _, a, b]| [code, 8, a, b]);
+    let with_8 = call(8, [5, 6, 4, 9]);
+    assert_eq!(recipe_instructions(&SCHOOL.concat(), &with_8), Some(by_8.to_vec()));
+}
+
+/// Document 02, point 1: "a recipe that stops at the sixth leaves a mess"; now it "runs entirely or not at all".
+#[test]
+fn point_1_school_refused_at_the_sixth() {
+    let start = from_f(&[[1, 0, 1, 0], [3, 0, 1, 8]]); // user 8 owns area 1, and not area 0
+    let with = call(8, [5, 6, 4, 9]);
+    recipe_refused(&start, &SCHOOL.concat(), with, 5, 6);
+    // one by one
+    let nine = recipe_instructions(&SCHOOL.concat(), &with).expect("nine instructions");
+    let mess = run(&start, &nine[..5]);
+    assert_eq!((mess.areas.len(), step(&mess, nine[5])), (4, Err(5)));
+    // by an owner of area 0
+    let start = from_f(&[[1, 0, 1, 0], [3, 0, 1, 8], [3, 0, 0, 8]]);
+    let opened = recipe_accepted(&start, &SCHOOL.concat(), with);
+    let of_0_and_4 = [(0, 0), (0, 1), (4, 5), (4, 6)];
+    let of_8 = [(8, 0), (8, 1), (8, 5), (8, 6)];
+    assert_eq!(opened.owners, of_0_and_4.into_iter().chain(of_8).collect());
+}
+
+/// Document 02, point 1: "Parameters 0 to 3 and the one activator come with the call."
+#[test]
+fn point_1_school_with_other_parameters() {
+    let f = State::founding();
+    for (parameters, number, place) in [
+        ([0, 6, 4, 9], 6, 1), // area 0 is listed
+        ([5, 0, 4, 9], 6, 2),
+        ([5, 5, 4, 9], 6, 2), // by the recipe's own first instruction
+        ([5, 6, 0, 9], 6, 8), // user 0 owns the school
+        ([32, 6, 4, 9], 2, 1),
+        ([5, 32, 4, 9], 2, 2),
+        ([5, 6, 32, 9], 2, 8),
+        ([5, 6, 4, 64], 2, 4),
+        ([5, 6, 32, 64], 2, 4),
+        (UNUSED, 2, 1),
+    ] {
+        recipe_refused(&f, &SCHOOL.concat(), call(0, parameters), number, place);
+    }
+    recipe_refused(&from_f(&[[7, 0, 0, 9]]), &SCHOOL.concat(), call(0, [5, 6, 4, 9]), 6, 4);
+    recipe_refused(&from_f(&[[1, 0, 6, 0]]), &SCHOOL.concat(), call(0, [5, 6, 4, 9]), 6, 2);
+}
+
+/// Document 02, point 1: "for a and for b a kind byte (0 fixed, 1 parameter) and a value"
+#[test]
+fn point_1_every_parameter_for_a_and_for_b() {
+    let start = from_f(&[[1, 0, 1, 0], [1, 0, 2, 0], [1, 0, 3, 0]]);
+    let with = call(0, [2, 0, 3, 1]);
+    let areas = [(0, 2), (1, 0), (2, 3), (3, 1)]; // each parameter, and the area that it is
+    for (a, area_a) in areas {
+        for (b, area_b) in areas {
+            for (five, pair) in [
+                ([5, 0, a, 0, b], (a, b)),
+                ([5, 0, a, 1, b], (a, area_b)),
+                ([5, 1, a, 0, b], (area_a, b)),
+                ([5, 1, a, 1, b], (area_a, area_b)),
+            ] {
+                assert_eq!(recipe_accepted(&start, &five, with).structure, BTreeSet::from([pair]));
+                assert_eq!(recipe_instructions(&five, &with), Some(vec![[5, 0, pair.0, pair.1]]));
+            }
+        }
+    }
+}
+
+/// Document 02, point 1: "a recipe of 1 to 16 instructions": area 1, areas 1 and 2, and so on. 17 are too many.
+#[test]
+fn point_1_one_to_sixteen_instructions() {
+    let f = State::founding();
+    let areas: Vec<[u8; 5]> = (1..=17).map(|area| fixed(1, area, 0)).collect();
+    for last in 1..=16 {
+        let listed = recipe_accepted(&f, &areas[..usize::from(last)].concat(), call(0, UNUSED));
+        assert_eq!(listed.areas, (0..=last).collect());
+        assert_eq!(listed.owners, (0..=last).map(|area| (0, area)).collect());
+    }
+    is_14(&areas.concat(), Misformed::Length);
+    is_14(&[], Misformed::Length);
+}
+
+/// Document 02, point 1: "A length that is not a multiple of 5 from 5 to 80 ... is refused as 14".
+#[test]
+fn point_1_every_length() {
+    let f = State::founding();
+    let areas: Vec<u8> = (1..=18).flat_map(|area| fixed(1, area, 0)).collect();
+    let lengths = [5, 10, 15, 20, 25, 30, 35, 40, 45, 50, 55, 60, 65, 70, 75, 80];
+    for length in 0..=90 {
+        let bytes = &areas[..length];
+        if lengths.contains(&length) {
+            assert_eq!(recipe_accepted(&f, bytes, call(0, UNUSED)).areas.len(), 1 + length / 5);
+            recipe_refused(&f, &vec![0; length], call(0, UNUSED), 1, 1);
+        } else {
+            is_14(bytes, Misformed::Length);
+            is_14(&vec![0; length], Misformed::Length);
+        }
+    }
+    // none is too large to be refused, nor taken for its low bits: 256 + 5 and 256 + 9, 65,536 + 5 and 65,536 + 9
+    for length in [95, 100, 160, 255, 256, 260, 261, 265, 336, 65_535, 65_536, 65_541, 65_545, 65_616] {
+        let bytes: Vec<u8> = areas.iter().copied().cycle().take(length).collect();
+        is_14(&bytes, Misformed::Length);
+    }
+}
+
+/// The way to 14 by the byte at the position, where the other kinds are as given and the other values at most 3.
+fn way_of(position: usize, kind: u8, byte: u8) -> Option<Misformed> {
+    match (position, kind, byte) {
+        (1 | 3, _, 2..) => Some(Misformed::Kind),
+        (2 | 4, 1, 4..) => Some(Misformed::Parameter),
+        _ => None,
+    }
+}
+
+/// Document 02, point 1: "a kind above 1 or a parameter above 3 is refused as 14". Each of the 80 bytes in turn; code
+/// 13 is in the others, so that no recipe is accepted.
+#[test]
+fn point_1_every_byte_at_every_position() {
+    let f = State::founding();
+    for (kind, five) in [(0, [13, 0, 2, 0, 3]), (1, [13, 1, 2, 1, 3])] {
+        for (at, byte) in (0..80).flat_map(|at| (0..=u8::MAX).map(move |byte| (at, byte))) {
+            let mut bytes = [five; 16].concat();
+            bytes[at] = byte;
+            let way = way_of(at % 5, kind, byte);
+            assert_eq!(misformed(&bytes), way, "byte {byte} at {at}, kind {kind}");
+            let (answer, after) = recipe(&f, &bytes, &call(0, [0; 4]));
+            assert_eq!(answer.number == 14, way.is_some(), "byte {byte} at {at}, kind {kind}");
+            assert_eq!((answer.place == 0, &after), (way.is_some(), &f));
+        }
+    }
+}
+
+/// Document 02, point 1: 14 in the first instruction, in the eighth and in the sixteenth; all others are accepted.
+#[test]
+fn point_1_one_misformed_instruction_among_sixteen() {
+    let areas: Vec<[u8; 5]> = (1..=16).map(|area| fixed(1, area, 0)).collect();
+    for place in [0, 7, 15] {
+        for (five, way) in [
+            ([1, 2, 20, 0, 0], Misformed::Kind),
+            ([1, 255, 20, 0, 0], Misformed::Kind),
+            ([1, 0, 20, 2, 0], Misformed::Kind),
+            ([1, 0, 20, 255, 0], Misformed::Kind),
+            ([1, 2, 0, 2, 0], Misformed::Kind),
+            ([1, 1, 4, 0, 0], Misformed::Parameter),
+            ([1, 1, 255, 0, 0], Misformed::Parameter),
+            ([1, 0, 20, 1, 4], Misformed::Parameter),
+            ([1, 0, 20, 1, 255], Misformed::Parameter),
+            ([0, 1, 4, 1, 4], Misformed::Parameter),
+        ] {
+            let mut sixteen = areas.clone();
+            sixteen[place] = five;
+            is_14(&sixteen.concat(), way);
+            is_14(&sixteen[place..].concat(), way);
+            is_14(&sixteen[..=place].concat(), way);
+        }
+    }
+}
+
+/// The way that is named where several apply: the length, then a kind, then a parameter, wherever they stand.
+#[test]
+fn misformed_names_the_length_then_a_kind_then_a_parameter() {
+    let (kind, parameter) = ([1, 2, 0, 0, 0], [1, 1, 4, 0, 0]);
+    is_14(&[kind, parameter].concat(), Misformed::Kind);
+    is_14(&[parameter, kind].concat(), Misformed::Kind);
+    is_14(&[1, 1, 4, 2, 0], Misformed::Kind);
+    is_14(&[1, 2, 4, 1, 4], Misformed::Kind);
+    is_14(&[parameter, [1, 0, 9, 0, 0]].concat(), Misformed::Parameter);
+    is_14(&[2; 4], Misformed::Length);
+    is_14(&[2; 81], Misformed::Length);
+    is_14(&[kind; 17].concat(), Misformed::Length);
+    is_14(&[parameter; 17].concat(), Misformed::Length);
+    assert_eq!(misformed(&SCHOOL.concat()), None);
+}
+
+/// Reading 15: where the kind is 0 the value is the number itself, whatever it is; so is what a parameter stands for.
+#[test]
+fn reading_15_fixed_value_above_3_is_no_14() {
+    let f = State::founding();
+    for value in 0..=u8::MAX {
+        let of_a = match value {
+            0 => 0,
+            1..=31 => 4, // an unlisted area
+            _ => 2,
+        };
+        let of_b = if value < 64 { 0 } else { 2 };
+        for (five, parameters, number) in [
+            ([7, 0, value, 0, 9], UNUSED, of_a),
+            ([7, 0, 0, 0, value], UNUSED, of_b),
+            ([7, 1, 2, 0, 9], [255, 255, value, 255], of_a),
+            ([7, 0, 0, 1, 3], [255, 255, 255, value], of_b),
+        ] {
+            assert_eq!(misformed(&five), None);
+            match number {
+                0 => assert_eq!(recipe_accepted(&f, &five, call(0, parameters)).objects.len(), 1),
+                _ => recipe_refused(&f, &five, call(0, parameters), number, 1),
+            }
+        }
+    }
+}
+
+/// Reading 15: only where the kind is 1 must a value not be above 3.
+#[test]
+fn reading_15_every_value_of_kind_1() {
+    let start = from_f(&[[1, 0, 1, 0]]);
+    let with = call(0, [1, 0, 1, 0]);
+    for (value, area) in [(0, 1), (1, 0), (2, 1), (3, 0)] {
+        let of_a = recipe_accepted(&start, &[5, 1, value, 0, 0], with);
+        assert_eq!(of_a.structure, BTreeSet::from([(area, 0)]));
+        let of_b = recipe_accepted(&start, &[5, 0, 0, 1, value], with);
+        assert_eq!(of_b.structure, BTreeSet::from([(0, area)]));
+    }
+    for value in 4..=u8::MAX {
+        is_14(&[5, 1, value, 0, 0], Misformed::Parameter);
+        is_14(&[5, 0, 0, 1, value], Misformed::Parameter);
+    }
+}
+
+/// Reading 15: 14 asks nothing of a code. Each one at F, with activator, a and b 0.
+#[test]
+fn reading_15_every_code() {
+    let f = State::founding();
+    for code in 0..=u8::MAX {
+        let number = match code {
+            5 | 7 => 0, // area 0 in itself, object 0 in area 0
+            1 | 3 => 6,
+            2 | 4 => 8,
+            6 => 7,
+            8..=12 => 4,
+            _ => 1,
+        };
+        for five in [[code, 0, 0, 0, 0], [code, 1, 2, 1, 2]] {
+            let with = call(0, [255, 255, 0, 255]);
+            match number {
+                0 => assert_ne!(recipe_accepted(&f, &five, with), f),
+                _ => recipe_refused(&f, &five, with, number, 1),
+            }
+        }
+    }
+}
+
+/// An instruction at the state after the accepted list from F: its number, the list, the activator and the five bytes.
+type Example = (u8, &'static [[u8; 4]], u8, [u8; 5]);
+
+/// The lines 1 to 8 of the session that are accepted.
+const LENDING_LINES: &[[u8; 4]] = &[
+    [1, 0, 1, 0],
+    [1, 0, 2, 0],
+    [5, 0, 1, 2],
+    [5, 0, 0, 2],
+    [7, 0, 1, 9],
+    [11, 0, 1, 9],
+    [9, 0, 0, 9],
+];
+
+/// Document 01's examples of refusals 1 to 11, but for 3, and one of 15. In each the activator owns area 0.
+const EXAMPLES: [Example; 11] = [
+    (1, &[], 0, [13, 0, 0, 0, 0]),
+    (2, &[], 0, [7, 0, 0, 0, 64]),
+    (4, &[], 0, [7, 0, 6, 0, 0]),
+    (5, &[[1, 0, 1, 0], [3, 0, 0, 4]], 4, [7, 0, 1, 0, 9]),
+    (6, &[], 0, [1, 0, 0, 0, 0]),
+    (7, &[[7, 0, 0, 9]], 0, [10, 0, 0, 0, 9]),
+    (15, &[[7, 0, 0, 9]], 0, [9, 0, 0, 0, 9]),
+    (8, &[], 0, [4, 0, 0, 0, 0]),
+    (9, &[[1, 0, 1, 0], [7, 0, 1, 9]], 0, [2, 0, 1, 0, 0]),
+    (10, &[[1, 0, 1, 0], [7, 0, 0, 9]], 0, [9, 0, 1, 0, 9]),
+    (11, LENDING_LINES, 0, [12, 0, 1, 0, 9]),
+];
+
+/// As many instructions that an owner of area 0 gives: objects 20, 21 and so on in area 0.
+fn definitions(count: u8) -> Vec<u8> {
+    (0..count).flat_map(|more| fixed(7, 0, 20 + more)).collect()
+}
+
+/// Document 02, point 1: "the answer is its number and its place counted from 1", each number at each of the 16 places.
+/// What stands behind it is not seen, though it is 1.
+#[test]
+fn point_1_place_of_each_number() {
+    for (number, list, activator, five) in EXAMPLES {
+        let start = from_f(list);
+        for place in 1..=16 {
+            let mut bytes = definitions(place - 1);
+            bytes.extend(five);
+            recipe_refused(&start, &bytes, call(activator, UNUSED), number, place);
+            bytes.resize(80, 0);
+            recipe_refused(&start, &bytes, call(activator, UNUSED), number, place);
+        }
+    }
+}
+
+/// 3 behind the first place: user 4 gives up his last area, and with it his listing.
+#[test]
+fn point_1_place_of_3() {
+    recipe_refused(&State::founding(), &fixed(1, 1, 0), call(5, UNUSED), 3, 1);
+    let start = from_f(&[[3, 0, 0, 4]]);
+    for place in 2..=16 {
+        let mut bytes = definitions(place - 2);
+        bytes.extend(fixed(4, 0, 4));
+        let given_up = recipe_accepted(&start, &bytes, call(4, UNUSED));
+        assert_eq!(given_up.users, BTreeSet::from([0]));
+        bytes.extend(fixed(1, 1, 0));
+        recipe_refused(&start, &bytes, call(4, UNUSED), 3, place);
+    }
+}
+
+/// Document 02, point 1: "If an instruction is refused, ... the state is the one given": no list and no relation moves.
+#[test]
+fn point_1_no_field_moves() {
+    let f = State::founding();
+    let ten = [&SCHOOL[..], &[fixed(0, 0, 0)]].concat(); // the nine change every list and every relation
+    recipe_refused(&f, &ten.concat(), call(0, [5, 6, 4, 9]), 1, 10);
+    let start = hand_made();
+    recipe_refused(&start, &ten.concat(), call(0, [3, 7, 8, 9]), 6, 4);
+    recipe_refused(&start, &ten.concat(), call(0, [3, 7, 8, 10]), 1, 10);
+    // removes of every list and relation that user 0 can empty, and then area 5, which is user 6's
+    let removes = [
+        fixed(10, 1, 9),
+        fixed(12, 2, 8),
+        fixed(8, 2, 8),
+        fixed(8, 0, 9),
+        fixed(6, 2, 1),
+        fixed(6, 1, 0),
+        fixed(2, 1, 0),
+        fixed(4, 2, 4),
+        fixed(2, 5, 0),
+    ];
+    recipe_refused(&start, &removes.concat(), call(0, UNUSED), 5, 9);
+    let emptied = recipe_accepted(&start, &removes[..8].concat(), call(0, UNUSED));
+    assert_eq!((emptied.users, emptied.areas), (BTreeSet::from([0, 6]), BTreeSet::from([0, 2, 5])));
+    assert!(emptied.structure.is_empty() && emptied.imports.is_empty() && emptied.exports.is_empty());
+}
+
+/// Document 02, point 1: "The place beside 0, 12 and 14 is 0"; 14 stands "after 12 and before 1".
+#[test]
+fn point_1_12_comes_before_14() {
+    let no_owner = State {
+        areas: BTreeSet::from([0, 3]),
+        ..State::founding()
+    };
+    let own_import = State {
+        imports: BTreeSet::from([(9, 0)]),
+        ..from_f(&[[7, 0, 0, 9]])
+    };
+    for unsound in [no_owner, own_import] {
+        for bytes in [
+            &[][..],
+            &[1, 0, 1, 0],
+            &[0; 85],
+            &[1, 2, 1, 0, 0],
+            &[1, 0, 1, 1, 4],
+            &[13, 0, 0, 0, 0],
+            &[1, 0, 1, 0, 0],
+            &[10, 0, 0, 0, 9],
+            &SCHOOL.concat(),
+        ] {
+            recipe_refused(&unsound, bytes, call(0, [5, 6, 4, 9]), 12, 0);
+            recipe_refused(&unsound, bytes, call(255, UNUSED), 12, 0);
+        }
+    }
+}
+
+/// 12: "or is not the record its relations have", before 14 and with the bytes that were given.
+#[test]
+fn point_1_bytes_that_are_no_record() {
+    let record = to_record(&State::founding());
+    let mut two = record.clone();
+    two[5000] = 2;
+    for bad in [two, record[..8319].to_vec(), [record, vec![0]].concat(), vec![]] {
+        for bytes in [&[][..], &[1, 2, 1, 0, 0], &[1, 0, 1, 0, 0], &[0; 5]] {
+            let answer = RecipeAnswer { number: 12, place: 0 };
+            assert_eq!(recipe_record(&bad, bytes, &call(0, [0; 4])), (answer, bad.clone()));
+        }
+    }
+}
+
+/// Document 02, point 1: 14 stands "after 12 and before 1", wherever in the recipe it comes from.
+#[test]
+fn reading_15_14_comes_before_every_number_of_an_instruction() {
+    let of_3: Example = (3, &[], 5, [1, 0, 1, 0, 0]);
+    for (number, list, activator, five) in EXAMPLES.into_iter().chain([of_3]) {
+        let start = from_f(list);
+        let with = call(activator, UNUSED);
+        recipe_refused(&start, &five, with, number, 1);
+        for (kind_a, a, kind_b, b) in [(2, 0, 0, 0), (0, 0, 2, 0), (1, 4, 0, 0), (0, 0, 1, 4)] {
+            let last = [1, kind_a, a, kind_b, b];
+            recipe_refused(&start, &[five, last].concat(), with, 14, 0);
+            recipe_refused(&start, &[last, five].concat(), with, 14, 0);
+            let mut sixteen = [five; 16];
+            sixteen[15] = last;
+            recipe_refused(&start, &sixteen.concat(), with, 14, 0);
+        }
+        recipe_refused(&start, &[&five[..], &[1]].concat(), with, 14, 0);
+        recipe_refused(&start, &[five; 17].concat(), with, 14, 0);
+    }
+}
+
+/// Reading 15: 12, 14, 1 to 7, 15, 8 to 11.
+#[test]
+fn reading_15_order_of_checks() {
+    assert_eq!(order_of_recipe_checks(), [12, 14, 1, 2, 3, 4, 5, 6, 7, 15, 8, 9, 10, 11]);
+    assert_eq!(order_of_checks(), [12, 1, 2, 3, 4, 5, 6, 7, 15, 8, 9, 10, 11]);
+}
+
+/// Reading 15: its two examples, and an unknown code at place 3, which is seen only if places 1 and 2 are accepted.
+#[test]
+fn reading_15_examples() {
+    let f = State::founding();
+    recipe_refused(&f, &[7, 0, 0, 0, 9, 9, 0, 0, 0, 9], call(0, UNUSED), 15, 2);
+    recipe_refused(&f, &[13, 0, 0, 0, 0, 1, 2, 0, 0, 0], call(0, UNUSED), 14, 0);
+    let (area_1, area_2, unknown) = (fixed(1, 1, 0), fixed(1, 2, 0), fixed(99, 0, 0));
+    recipe_refused(&f, &[area_1, area_2, unknown].concat(), call(0, UNUSED), 1, 3);
+    recipe_refused(&f, &[fixed(1, 0, 0), area_2, unknown].concat(), call(0, UNUSED), 6, 1);
+    recipe_refused(&f, &[area_1, area_1, unknown].concat(), call(0, UNUSED), 6, 2);
+    // each in the state that those before it give: area 1 is listed behind code 1, and not in front of it
+    let in_turn = [area_1, fixed(7, 1, 9), fixed(5, 1, 0), fixed(11, 1, 9)];
+    let turned = recipe_accepted(&f, &in_turn.concat(), call(0, UNUSED));
+    assert_eq!((turned.exports, access(&f, 1, 9)), (BTreeSet::from([(9, 1)]), Err(4)));
+    recipe_refused(&f, &[fixed(7, 1, 9), area_1].concat(), call(0, UNUSED), 4, 1);
+    recipe_refused(&f, &[area_1, fixed(5, 1, 2), area_2].concat(), call(0, UNUSED), 4, 2);
+}
+
+/// Document 02, point 1: "the one activator". Above 31 he is 2, unlisted 3, and both at the first place.
+#[test]
+fn point_1_every_activator() {
+    let f = State::founding();
+    let three = [fixed(1, 1, 0), fixed(1, 2, 0), fixed(7, 1, 9)].concat();
+    for activator in 1..=u8::MAX {
+        let number = if activator > 31 { 2 } else { 3 };
+        recipe_refused(&f, &three, call(activator, [0; 4]), number, 1);
+        recipe_refused(&f, &[0; 80], call(activator, [0; 4]), 1, 1); // an unknown code is 1 all the same
+        recipe_refused(&f, &[1, 2, 0, 0, 0], call(activator, [0; 4]), 14, 0);
+    }
+    let of_0 = recipe_accepted(&f, &three, call(0, UNUSED));
+    assert_eq!(of_0.owners, BTreeSet::from([(0, 0), (0, 1), (0, 2)]));
+    // he is the activator of each instruction
+    let of_4 = recipe_accepted(&from_f(&[[3, 0, 0, 4]]), &three, call(4, UNUSED));
+    assert_eq!(of_4.owners, BTreeSet::from([(0, 0), (4, 0), (4, 1), (4, 2)]));
+    let start = from_f(&[[1, 0, 3, 0], [3, 0, 3, 4]]); // user 4 owns area 3, and not area 0
+    let four = [&three[..], &fixed(7, 0, 8)].concat();
+    recipe_refused(&start, &four, call(4, UNUSED), 5, 4);
+}
+
+/// Reading 15: "b not 0 for codes 1 and 2" is about what the kind and the value stand for.
+#[test]
+fn reading_15_b_of_codes_1_and_2() {
+    let start = from_f(&[[1, 0, 1, 0]]);
+    for (code, a, areas) in [(1, 2, vec![0, 1, 2]), (2, 1, vec![0])] {
+        let areas = BTreeSet::from_iter(areas);
+        assert_eq!(recipe_accepted(&start, &[code, 0, a, 0, 0], call(0, UNUSED)).areas, areas);
+        for parameter in 0..4 {
+            let mut zero = UNUSED;
+            zero[usize::from(parameter)] = 0;
+            assert_eq!(recipe_accepted(&start, &[code, 0, a, 1, parameter], call(0, zero)).areas, areas);
+            for b in 1..=u8::MAX {
+                let mut other = [0; 4];
+                other[usize::from(parameter)] = b;
+                recipe_refused(&start, &[code, 0, a, 1, parameter], call(0, other), 2, 1);
+            }
+        }
+        for b in 1..=u8::MAX {
+            recipe_refused(&start, &[code, 0, a, 0, b], call(0, [0; 4]), 2, 1);
+        }
+    }
+}
+
+/// Reading 15: a parameter that no instruction uses may be anything.
+#[test]
+fn reading_15_unused_parameters() {
+    let f = State::founding();
+    for content in 0..=u8::MAX {
+        let of_none = recipe_accepted(&f, &fixed(7, 0, 3), call(0, [content; 4]));
+        assert_eq!(of_none.objects, BTreeSet::from([3]));
+        for used in 0..4 {
+            let mut parameters = [content; 4];
+            parameters[usize::from(used)] = 6;
+            let of_one = recipe_accepted(&f, &[7, 0, 0, 1, used], call(0, parameters));
+            assert_eq!(of_one.objects, BTreeSet::from([6]));
+        }
+    }
+}
+
+/// "Code 3 lists user b if unlisted. Codes 2 and 4 unlist a user who owns no area afterwards": both within one recipe.
+#[test]
+fn point_1_user_listed_and_unlisted_within_a_recipe() {
+    let f = State::founding();
+    let (owner, no_owner) = ([3, 0, 0, 1, 2], [4, 0, 0, 1, 2]);
+    let with = call(0, [255, 255, 4, 255]);
+    assert_eq!(recipe_accepted(&f, &owner, with).users, BTreeSet::from([0, 4]));
+    assert_eq!(recipe_accepted(&f, &[owner, no_owner].concat(), with), f);
+    recipe_refused(&f, &no_owner, with, 4, 1); // user 4 is not listed yet
+    recipe_refused(&f, &[owner, no_owner, no_owner].concat(), with, 4, 3); // and no more
+    recipe_refused(&f, &[owner, owner].concat(), with, 6, 2);
+    let again = recipe_accepted(&f, &[owner, no_owner, owner].concat(), with);
+    assert_eq!(again.users, BTreeSet::from([0, 4]));
+    // the owner of two areas is unlisted with the second
+    let of_two = [fixed(1, 1, 0), owner, fixed(3, 1, 4), no_owner];
+    assert_eq!(recipe_accepted(&f, &of_two.concat(), with).users, BTreeSet::from([0, 4]));
+    let of_none = [&of_two[..], &[fixed(4, 1, 4)]].concat();
+    assert_eq!(recipe_accepted(&f, &of_none.concat(), with).users, BTreeSet::from([0]));
+    // the activator hands his only area over; what he gives behind that is 3
+    let handed_over = recipe_accepted(&f, &[owner, fixed(4, 0, 0)].concat(), with);
+    assert_eq!(
+        (handed_over.users, handed_over.owners),
+        (BTreeSet::from([4]), BTreeSet::from([(4, 0)]))
+    );
+    recipe_refused(&f, &[owner, fixed(4, 0, 0), fixed(5, 0, 0)].concat(), with, 3, 3);
+}
+
+/// Document 02, point 7, within a recipe: an add, and at once its remove.
+#[test]
+fn point_1_adds_and_removes_in_one_recipe() {
+    let start = hand_made();
+    for ([add, activator, a, b], [remove, ..], change) in SIX_ADDS {
+        let (add, remove) = (fixed(add, a, b), fixed(remove, a, b));
+        let with = call(activator, UNUSED);
+        assert_eq!(recipe_accepted(&start, &add, with), changed(&start, change));
+        assert_eq!(recipe_accepted(&start, &[add, remove].concat(), with), start);
+        assert_eq!(recipe_accepted(&start, &[add, remove, add].concat(), with), changed(&start, change));
+        recipe_refused(&start, &[add, add, remove].concat(), with, 6, 2);
+    }
+    // all six by user 0, and then their removes, that of the last add first
+    let adds = [
+        fixed(1, 3, 0),
+        fixed(3, 3, 7),
+        fixed(5, 3, 0),
+        fixed(7, 3, 9),
+        fixed(9, 0, 8),
+        fixed(11, 3, 9),
+    ];
+    let in_area_2 = from_f(&[[1, 0, 2, 0], [5, 0, 0, 2], [7, 0, 2, 8]]); // area 0 in area 2, which defines 8
+    let with = call(0, UNUSED);
+    let take_back = |five: [u8; 5]| fixed(five[0] + 1, five[2], five[4]);
+    let twelve: Vec<[u8; 5]> = adds.into_iter().chain(adds.into_iter().rev().map(take_back)).collect();
+    assert_eq!(recipe_accepted(&in_area_2, &twelve.concat(), with), in_area_2);
+    let six = recipe_accepted(&in_area_2, &adds.concat(), with);
+    assert_eq!((six.imports, six.exports), (BTreeSet::from([(8, 0)]), BTreeSet::from([(9, 3)])));
+    recipe_refused(&in_area_2, &[&twelve[..6], &[take_back(adds[0])]].concat().concat(), with, 9, 7);
+}
+
+/// What the instructions give one by one, up to the first refusal: number, place and state. After a refusal the state
+/// is the one given.
+fn one_by_one(state: &State, list: &[[u8; 4]]) -> (u8, u8, State) {
+    let mut now = state.clone();
+    for (place, &instruction) in (1..).zip(list) {
+        match gives(&now, instruction) {
+            (0, next) => now = next,
+            (number, _) => return (number, place, state.clone()),
+        }
+    }
+    (0, 0, now)
+}
+
+/// Code, a and b of twelve instructions over the small numbers, one of each code.
+const SMALL: [[u8; 3]; 12] = [
+    [1, 1, 0],
+    [2, 1, 0],
+    [3, 0, 1],
+    [4, 0, 0],
+    [5, 1, 0],
+    [6, 1, 0],
+    [7, 0, 0],
+    [8, 0, 0],
+    [9, 1, 0],
+    [10, 1, 0],
+    [11, 0, 0],
+    [12, 0, 0],
+];
+
+/// Document 02, point 1: "runs entirely or not at all". By both users, each two of `SMALL`; behind a refused first
+/// instruction one second is enough.
+#[test]
+fn point_1_two_instructions_at_every_small_state() {
+    let mut seen = BTreeSet::new();
+    for (state, activator) in small_states().iter().flat_map(|state| [(state, 0), (state, 1)]) {
+        for [code, a, b] in SMALL {
+            let first = [code, activator, a, b];
+            let seconds = if step(state, first).is_ok() { SMALL.len() } else { 1 };
+            for &[next_code, next_a, next_b] in &SMALL[..seconds] {
+                let bytes = [fixed(code, a, b), fixed(next_code, next_a, next_b)].concat();
+                let (answer, after) = recipe(state, &bytes, &call(activator, UNUSED));
+                let expected = one_by_one(state, &[first, [next_code, activator, next_a, next_b]]);
+                assert_eq!((answer.number, answer.place, after), expected, "{bytes:?} at {state:?}");
+                seen.insert((answer.number, answer.place));
+            }
+        }
+    }
+    let numbers = [3, 4, 5, 6, 7, 8, 9, 10, 11, 15];
+    let by_hand = numbers.into_iter().flat_map(|number| [(number, 1), (number, 2)]);
+    assert_eq!(seen, by_hand.chain([(0, 0)]).collect());
+}
+
+/// Every add with its remove, and every add twice. How many are accepted stands at `point_7_at_every_small_state`.
+#[test]
+fn point_1_adds_at_every_small_state() {
+    let adds = small_instructions()
+        .into_iter()
+        .filter_map(|add| Some((add, matching_remove(add)?)));
+    let adds: Vec<([u8; 4], [u8; 4])> = adds.collect();
+    let mut taken: BTreeMap<u8, u32> = BTreeMap::new();
+    for state in small_states() {
+        for &([code, activator, a, b], [remove, ..]) in &adds {
+            let (add, remove) = (fixed(code, a, b), fixed(remove, a, b));
+            let (answer, after) = recipe(&state, &[add, remove].concat(), &call(activator, UNUSED));
+            assert_eq!(after, state); // taken back, or not given
+            if answer.number == 0 {
+                *taken.entry(code).or_default() += 1;
+                let twice = recipe(&state, &[add, add].concat(), &call(activator, UNUSED));
+                assert_eq!(twice, (RecipeAnswer { number: 6, place: 2 }, state.clone()));
+            } else {
+                assert_eq!(answer.place, 1);
+            }
+        }
+    }
+    let by_hand = BTreeMap::from([(1, 48), (3, 2136), (5, 3224), (7, 400), (9, 672), (11, 1456)]);
+    assert_eq!(taken, by_hand);
+}
+
+/// The instructions of a recipe, byte by byte; `None` for one that is 14.
+fn spelled_out(bytes: &[u8], call: &Call) -> Option<Vec<[u8; 4]>> {
+    let count = (1..=16).find(|count| 5 * count == bytes.len())?;
+    let number = |at: usize| match (bytes[at], bytes[at + 1]) {
+        (0, value) => Some(value),
+        (1, 0) => Some(call.parameters[0]),
+        (1, 1) => Some(call.parameters[1]),
+        (1, 2) => Some(call.parameters[2]),
+        (1, 3) => Some(call.parameters[3]),
+        _ => None,
+    };
+    let instruction = |at: usize| Some([bytes[at], call.activator, number(at + 1)?, number(at + 3)?]);
+    (0..count).map(|place| instruction(5 * place)).collect()
+}
+
+/// An instruction of a recipe on a few users, areas and objects, or parameters.
+fn few_numbers([code, a, b, kinds]: [u8; 4]) -> [u8; 5] {
+    let code = 1 + code % 12;
+    let operand = |kind: bool, value: u8| if kind { (1, value % 4) } else { (0, value % 5) };
+    let (kind_a, a) = operand(kinds % 3 == 0, a);
+    let (kind_b, b) = operand(kinds % 4 == 0, if code < 3 { 0 } else { b });
+    [code, kind_a, a, kind_b, b]
+}
+
+/// A recipe of up to 16 instructions, most of which are accepted. In every fourth one of them is any, in every eighth a
+/// byte, and in every eighth the length may be another.
+fn often_accepted(state: &State, bytes: &mut impl Iterator<Item = [u8; 4]>) -> (Vec<u8>, Call) {
+    let [count, user, at, other] = bytes.next().expect("four bytes");
+    let parameters = bytes.next().expect("four bytes").map(|byte| byte % 5);
+    let with = call([0, 0, 0, 0, 1, 1, 2, 3][usize::from(user) % 8], parameters);
+    let mut now = state.clone();
+    let mut fives = Vec::new();
+    for _ in 0..=count % 16 {
+        let tries: Vec<[u8; 5]> = bytes.take(20).map(few_numbers).collect();
+        let next_of = |five: &[u8; 5]| step(&now, spelled_out(five, &with)?[0]).ok();
+        let (five, next) = tries
+            .iter()
+            .find_map(|five| Some((*five, next_of(five)?)))
+            .unwrap_or((tries[0], now.clone()));
+        fives.push(five);
+        now = next;
+    }
+    let place = usize::from(other) % fives.len();
+    match at % 8 {
+        0 | 1 => fives[place] = few_numbers(bytes.next().expect("four bytes")),
+        2 => fives[place][usize::from(at / 8) % 5] = other,
+        _ => {}
+    }
+    let missing = if at % 8 == 3 { usize::from(other) % 3 } else { 0 };
+    (fives.concat()[missing..].to_vec(), with)
+}
+
+/// Document 02, point 1, over recipes in disorder: the answer and the state are those of the instructions one by one.
+#[test]
+fn point_1_recipes_in_disorder() {
+    let mut bytes = disorder();
+    let mut state = from_f(FOUR_AREAS);
+    let mut seen: BTreeMap<(u8, u8), u32> = BTreeMap::new();
+    for turn in 0..1000 {
+        if turn % 10 == 0 {
+            state = from_f(FOUR_AREAS);
+        }
+        let (recipe_bytes, with) = often_accepted(&state, &mut bytes);
+        let spelled = spelled_out(&recipe_bytes, &with);
+        assert_eq!(recipe_instructions(&recipe_bytes, &with), spelled);
+        assert_eq!(misformed(&recipe_bytes).is_some(), spelled.is_none());
+        let expected = match spelled {
+            Some(list) => one_by_one(&state, &list),
+            None => (14, 0, state.clone()),
+        };
+        let (answer, after) = recipe(&state, &recipe_bytes, &with);
+        assert_eq!((answer.number, answer.place, &after), (expected.0, expected.1, &expected.2));
+        assert!(after.is_sound());
+        *seen.entry((answer.number, answer.place)).or_default() += 1;
+        state = after;
+    }
+    let numbers: BTreeSet<u8> = seen.keys().map(|&(number, _)| number).collect();
+    assert_eq!(numbers, BTreeSet::from([0, 1, 2, 3, 4, 5, 6, 7, 8, 9, 10, 11, 14, 15]));
+    let places: BTreeSet<u8> = seen.keys().map(|&(_, place)| place).collect();
+    assert!(places.is_superset(&(0..=12).collect()), "{places:?}");
+    assert!(seen[&(0, 0)] > 200 && seen[&(14, 0)] > 100, "{seen:?}");
+}
+
+/// A recipe of the activator, with fixed values, as a command.
+fn command(activator: u8, fives: &[[u8; 5]]) -> Command {
+    let (bytes, call) = (fives.concat(), call(activator, UNUSED));
+    Command::Recipe { bytes, call }
+}
+
+/// Area 1 of user 4 lies in area 0 of user 0 and imports object 9 from it.
+fn lent() -> State {
+    from_f(&[[3, 0, 0, 4], [1, 4, 1, 0], [5, 4, 1, 0], [4, 4, 0, 4], [7, 0, 0, 9], [9, 4, 1, 9]])
+}
+
+/// The state of a mixed list: accepted and refused instructions, accepted and refused recipes.
+#[test]
+fn point_1_mixed_list() {
+    let school = Command::Recipe {
+        bytes: SCHOOL.concat(),
+        call: call(0, [5, 6, 4, 9]),
+    };
+    let list = [
+        Command::Single([1, 0, 1, 0]),
+        command(0, &[fixed(1, 2, 0), fixed(7, 2, 8)]),
+        command(0, &[fixed(1, 3, 0), fixed(7, 2, 8)]), // 6 at place 2
+        Command::Single([8, 0, 1, 8]),                 // 7
+        command(0, &[]),                               // 14
+        school.clone(),
+        school, // 6 at place 1
+        Command::Single([5, 0, 2, 1]),
+    ];
+    let by_hand = State {
+        users: BTreeSet::from([0, 4]),
+        areas: BTreeSet::from([0, 1, 2, 5, 6]),
+        objects: BTreeSet::from([8, 9]),
+        owners: BTreeSet::from([(0, 0), (0, 1), (0, 2), (0, 5), (0, 6), (4, 5), (4, 6)]),
+        definitions: BTreeSet::from([(8, 2), (9, 5)]),
+        structure: BTreeSet::from([(2, 1), (5, 0), (6, 5)]),
+        imports: BTreeSet::from([(9, 6)]),
+        exports: BTreeSet::from([(9, 5)]),
+    };
+    let f = State::founding();
+    assert_eq!(run_commands(&f, &list), by_hand);
+    let singles = [[1, 0, 1, 0], [1, 0, 2, 0], [7, 0, 2, 8], [8, 0, 1, 8]];
+    let nine = recipe_instructions(&SCHOOL.concat(), &call(0, [5, 6, 4, 9])).expect("nine instructions");
+    assert_eq!(counted(&f, &list), [&singles[..], &nine, &[[5, 0, 2, 1]]].concat());
+    assert_eq!((run_commands(&f, &[]), counted(&f, &[])), (f, vec![]));
+}
+
+/// Document 02, point 1: "an accepted recipe counts as its instructions", by the state in which it is given.
+#[test]
+fn point_1_recipe_counts_where_it_is_accepted() {
+    let f = State::founding();
+    let listing = command(0, &[fixed(1, 2, 0), fixed(5, 2, 0)]);
+    let list = [
+        listing.clone(),
+        listing.clone(), // 6 at place 1
+        Command::Single([6, 0, 2, 0]),
+        listing.clone(), // 6 at place 1
+        Command::Single([2, 0, 2, 0]),
+        listing,
+    ];
+    let by_hand = [[1, 0, 2, 0], [5, 0, 2, 0], [6, 0, 2, 0], [2, 0, 2, 0], [1, 0, 2, 0], [5, 0, 2, 0]];
+    assert_eq!(counted(&f, &list), by_hand);
+    assert_eq!(run_commands(&f, &list), from_f(&by_hand));
+    // what is taken back within the recipe counts too
+    let taken_back = [command(0, &[fixed(3, 0, 4), fixed(4, 0, 4)])];
+    assert_eq!(counted(&f, &taken_back), [[3, 0, 0, 4], [4, 0, 0, 4]]);
+    assert_eq!(run_commands(&f, &taken_back), f);
+}
+
+/// Document 02, point 1: "a refused one as none", whatever refuses it. An instruction by itself counts all the same.
+#[test]
+fn reading_15_what_a_refused_recipe_counts_as() {
+    let start = lent();
+    let import_back = fixed(10, 1, 9); // user 4 could take his import back
+    for (fives, number, place) in [
+        (vec![import_back, fixed(13, 0, 0)], 1, 2),
+        (vec![import_back, fixed(7, 1, 64)], 2, 2),
+        (vec![import_back, fixed(7, 0, 8)], 5, 2),
+        (vec![import_back, import_back], 7, 2),
+        (vec![import_back, [1, 2, 0, 0, 0]], 14, 0),
+        (vec![import_back, [1, 1, 4, 0, 0]], 14, 0),
+        (vec![import_back; 17], 14, 0),
+        (vec![], 14, 0),
+    ] {
+        recipe_refused(&start, &fives.concat(), call(4, UNUSED), number, place);
+        assert_eq!(counted(&start, &[command(4, &fives)]), [[0; 4]; 0]);
+        assert_eq!(run_commands(&start, &[command(4, &fives)]), start);
+    }
+    for refused in [[13, 4, 0, 0], [1, 4, 0, 0], [1, 99, 2, 0]] {
+        assert_eq!(counted(&start, &[Command::Single(refused)]), [refused]);
+    }
+    let unsound = with_import(&start, 0);
+    let both = [command(4, &[import_back]), Command::Single([10, 4, 1, 9])]; // both are 12
+    assert_eq!(
+        (run_commands(&unsound, &both), counted(&unsound, &both)),
+        (unsound, vec![[10, 4, 1, 9]])
+    );
+}
+
+/// An area whose owner gives refused recipes alone keeps the guarantee: no one of the list that counts is his.
+#[test]
+fn point_1_lending_guarantee_hears_no_refused_recipe() {
+    let start = lent();
+    let list = [
+        command(4, &[fixed(10, 1, 9), fixed(13, 0, 0)]), // 1 at place 2
+        Command::Single([6, 0, 1, 0]),                   // 11: it would cut area 1 off
+        command(0, &[fixed(11, 0, 9), fixed(8, 0, 9)]),  // 11 at place 2
+        command(0, &[fixed(7, 0, 8), fixed(11, 0, 9)]),
+        command(4, &[fixed(4, 1, 4)]), // 8 at place 1
+    ];
+    let after = run_commands(&start, &list);
+    let by_hand = changed(&start, |state| {
+        state.objects.insert(8);
+        state.definitions.insert((8, 0));
+        state.exports.insert((9, 0));
+    });
+    assert_eq!(after, by_hand);
+    let counts = [[6, 0, 1, 0], [7, 0, 0, 8], [11, 0, 0, 9]];
+    assert_eq!(counted(&start, &list), counts);
+    assert!(counts.iter().all(|&[_, activator, ..]| !start.owners.contains(&(activator, 1))));
+    assert_eq!(lending_guarantee(&start, &counts, &after, 1), Ok(()));
+    assert_eq!(lending_guarantee_of_commands(&start, &list, &after, 1), Ok(()));
+    // states that break it; were user 4 heard, nothing would be said of his area
+    let no_import = changed(&after, |state| _ = state.imports.remove(&(9, 1)));
+    let no_pair = changed(&after, |state| _ = state.structure.remove(&(1, 0)));
+    let new_owner = changed(&after, |state| _ = state.owners.insert((0, 1)));
+    for broken in [no_import, no_pair, new_owner] {
+        assert!(lending_guarantee_of_commands(&start, &list, &broken, 1).is_err());
+        let with_his = [&counts[..], &[[10, 4, 1, 9]]].concat();
+        assert_eq!(lending_guarantee(&start, &with_his, &broken, 1), Ok(()));
+        let single = [&list[..], &[Command::Single([13, 4, 0, 0])]].concat(); // he is heard in a refused instruction
+        assert_eq!(lending_guarantee_of_commands(&start, &single, &broken, 1), Ok(()));
+    }
+}
+
+/// An owner changes his own area by an accepted recipe: he is heard, and the guarantee says nothing of it.
+#[test]
+fn point_1_lending_guarantee_hears_an_accepted_recipe() {
+    let start = lent();
+    let list = [command(4, &[fixed(7, 1, 8), fixed(10, 1, 9)]), Command::Single([6, 0, 1, 0])];
+    let after = run_commands(&start, &list);
+    let by_hand = changed(&start, |state| {
+        state.objects.insert(8);
+        state.definitions.insert((8, 1));
+        state.imports.remove(&(9, 1));
+        state.structure.remove(&(1, 0));
+    });
+    assert_eq!(after, by_hand);
+    assert_eq!(counted(&start, &list), [[7, 4, 1, 8], [10, 4, 1, 9], [6, 0, 1, 0]]);
+    assert_eq!(lending_guarantee_of_commands(&start, &list, &after, 1), Ok(()));
+    // were user 4 not heard, the lost import would be a breach
+    assert!(lending_guarantee(&start, &[[6, 0, 1, 0]], &after, 1).is_err());
+    // of his recipe alone area 0, which is user 0's, keeps all
+    let of_4 = &list[..1];
+    assert_eq!(lending_guarantee_of_commands(&start, of_4, &run_commands(&start, of_4), 0), Ok(()));
+    let moved = changed(&start, |state| _ = state.definitions.remove(&(9, 0)));
+    assert!(lending_guarantee_of_commands(&start, of_4, &moved, 0).is_err());
+    // he is heard too in an accepted recipe that leaves the state as it was
+    let both = [command(4, &[fixed(3, 1, 7), fixed(4, 1, 7)])];
+    assert_eq!(run_commands(&start, &both), start);
+    let no_import = changed(&start, |state| _ = state.imports.remove(&(9, 1)));
+    assert_eq!(lending_guarantee_of_commands(&start, &both, &no_import, 1), Ok(()));
+}
+
+/// The pairs of a relation that end with the area.
+fn with_area(pairs: &BTreeSet<(u8, u8)>, area: u8) -> Vec<(u8, u8)> {
+    pairs.iter().copied().filter(|pair| pair.1 == area).collect()
+}
+
+/// The area's owner, definition, import and export pairs.
+fn kept(state: &State, area: u8) -> [Vec<(u8, u8)>; 4] {
+    let relations = [&state.owners, &state.definitions, &state.imports, &state.exports];
+    relations.map(|pairs| with_area(pairs, area))
+}
+
+/// At every small state one user gives refused recipes alone, each of `SMALL` with an unknown code behind it, and the
+/// other everything: what the first one alone owns stays.
+#[test]
+fn point_1_lending_guarantee_at_every_small_state() {
+    let mut areas = 0;
+    for (start, silent) in small_states().iter().flat_map(|state| [(state, 0), (state, 1)]) {
+        let own: Vec<u8> = (0..2).filter(|&area| with_area(&start.owners, area) == [(silent, area)]).collect();
+        if own.is_empty() {
+            continue;
+        }
+        let mut list = Vec::new();
+        for [code, a, b] in SMALL {
+            let (five, other) = (fixed(code, a, b), 1 - silent);
+            list.extend([command(silent, &[five, fixed(0, 0, 0)]), Command::Single([code, other, a, b])]);
+            list.push(command(other, &[five, fixed(5, 0, 0), fixed(6, 0, 0)]));
+        }
+        let (after, counts) = (run_commands(start, &list), counted(start, &list));
+        assert!(counts.iter().all(|&[_, activator, ..]| activator != silent));
+        for &area in &start.areas {
+            assert_eq!(lending_guarantee(start, &counts, &after, area), Ok(()));
+        }
+        areas += own.len();
+        for area in own {
+            assert_eq!(kept(&after, area), kept(start, area), "area {area} of {start:?}");
+        }
+    }
+    assert_eq!(areas, 2 * 12 + 2 * 6 * 176); // areas with one owner, as counted at `point_7_at_every_small_state`
+}
+
+/// An instruction of any user but one that is accepted at the state, if one of the next few is.
+fn accepted_of_another(state: &State, silent: u8, bytes: &mut impl Iterator<Item = [u8; 4]>) -> [u8; 4] {
+    let tries: Vec<[u8; 4]> = bytes.take(6).map(|four| of_another(silent, four)).collect();
+    let accepted = tries.iter().find(|&&instruction| step(state, instruction).is_ok());
+    *accepted.unwrap_or(&tries[0])
+}
+
+/// A single instruction or a recipe of two, of any user but one; or a recipe of his in which he makes user 0 an owner
+/// of his area, and which is refused by its last code, if not before.
+fn command_of_another(state: &State, silent: u8, area: u8, bytes: &mut impl Iterator<Item = [u8; 4]>) -> Command {
+    let first = accepted_of_another(state, silent, bytes);
+    let second = accepted_of_another(&run(state, &[first]), silent, bytes);
+    let [one, other] = [first, second].map(|[code, _, a, b]| fixed(code, a, b));
+    match second[1] + one[2] {
+        kind if kind % 4 == 0 => Command::Single(first),
+        kind if kind % 4 == 1 => command(silent, &[fixed(3, area, 0), one, fixed(0, 0, 0)]),
+        _ => command(first[1], &[one, other]),
+    }
+}
+
+/// The lists in disorder of point 2 with recipes in them, also of the owner who is silent otherwise.
+#[test]
+fn point_1_lending_guarantee_over_commands_in_disorder() {
+    let start = from_f(&lent_row());
+    let mut bytes = disorder();
+    let (mut instructions, mut not_heard) = (0, 0);
+    for (user, area) in [(5, 7), (4, 8), (6, 9)].repeat(10) {
+        let (mut list, mut after) = (Vec::new(), start.clone());
+        for _ in 0..40 {
+            let next = command_of_another(&after, user, area, &mut bytes);
+            after = run_commands(&after, std::slice::from_ref(&next));
+            list.push(next);
+        }
+        assert_eq!(run_commands(&start, &list), after);
+        let counts = counted(&start, &list);
+        assert!(counts.iter().all(|&[_, activator, ..]| activator != user));
+        assert_eq!(run(&start, &counts), after); // what counts gives the same state
+        assert_eq!(kept(&after, area), kept(&start, area), "area {area} after {list:?}");
+        assert_eq!(lending_guarantee_of_commands(&start, &list, &after, area), Ok(()));
+        let is_single = |command: &&Command| matches!(command, Command::Single(_));
+        let is_his = |command: &&Command| matches!(command, Command::Recipe { call, .. } if call.activator == user);
+        instructions += counts.len() - list.iter().filter(is_single).count();
+        not_heard += list.iter().filter(is_his).count();
+    }
+    assert!(
+        instructions > 200 && not_heard > 200,
+        "{instructions} of accepted recipes, {not_heard} refused recipes"
+    );
 }
 
 // The small states

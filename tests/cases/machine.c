@@ -1,6 +1,6 @@
 /*
- * Instructions and access questions: works out each line of standard input (machine.txt) over the C interface
- * and compares it with the line. The top of that file tells the forms of a line.
+ * Instructions, recipes and access questions: works out each line of standard input (machine.txt) over the C
+ * interface and compares it with the line. The top of that file tells the forms of a line.
  */
 #include "cases.h"
 
@@ -13,9 +13,17 @@
 /* The record of the case. */
 static uint8_t *site;
 
+/* The recipe that the case gave last. */
+static struct {
+    int given, called;
+    size_t length;
+    uint8_t bytes[128];
+} recipe;
+
 /* What was done so far, in all and in the case. */
 static struct {
     unsigned long cases, instructions, refused, questions, counts, writes, lines_of_case;
+    unsigned long recipes, refused_recipes;
 } done;
 
 /* Obeys an instruction; a refused one must leave the record as it was. */
@@ -35,6 +43,30 @@ static uint8_t obey(uint8_t code, uint8_t activator, uint8_t a, uint8_t b)
     return refusal;
 }
 
+/* Obeys the recipe, whose bytes stay; a refused one must leave the record as it was. */
+static uint16_t obey_recipe(uint8_t activator, const uint8_t p[4])
+{
+    uint8_t given[PANELRIGHTS_STATE_BYTES];
+    uint8_t *bytes = allocate(recipe.length);
+    uint16_t answer;
+
+    memcpy(given, site, sizeof given);
+    if (recipe.length > 0)
+        memcpy(bytes, recipe.bytes, recipe.length);
+    answer = panelrights_recipe(site, PANELRIGHTS_STATE_BYTES, bytes, recipe.length, activator, p[0], p[1],
+                                p[2], p[3]);
+    done.recipes++;
+    if (recipe.length > 0 && memcmp(bytes, recipe.bytes, recipe.length) != 0)
+        fail("the recipe is changed");
+    if (answer != PANELRIGHTS_OK) {
+        done.refused_recipes++;
+        if (memcmp(site, given, sizeof given) != 0)
+            fail("the recipe gets %d and changes the record", answer);
+    }
+    free(bytes);
+    return answer;
+}
+
 /*
  * Each of these takes the lines of one form, without the spaces at the front. It gives 0 for any other line;
  * or 1, and writes the line as it comes out. Its numbers are those that the library got, so one that does not
@@ -49,6 +81,67 @@ static int take_instruction(const char *text, char *worked)
         return 0;
     refusal = obey((uint8_t)code, (uint8_t)activator, (uint8_t)a, (uint8_t)b);
     sprintf(worked, "%d %d %d %d: %d", (uint8_t)code, (uint8_t)activator, (uint8_t)a, (uint8_t)b, refusal);
+    return 1;
+}
+
+/* A recipe that is not called would pass whatever the library does. */
+static void end_recipe(void)
+{
+    if (recipe.given && !recipe.called)
+        fail("a recipe that is not called ends here");
+    recipe.given = 0;
+}
+
+/* Bytes of a recipe, a comma behind five: the first ones, or more. */
+static int take_bytes(const char *text, char *worked)
+{
+    static const char *const words[] = {"and:", "recipe:"};
+    const int first = strncmp(text, words[1], strlen(words[1])) == 0;
+    const char *comma = "";
+    unsigned byte;
+    int end;
+
+    if (strncmp(text, words[first], strlen(words[first])) != 0)
+        return 0;
+    if (first) {
+        end_recipe();
+        recipe.length = 0;
+        recipe.given = 1;
+    }
+    recipe.called = 0;
+    if (!recipe.given)
+        fail("no recipe has begun: %s", text);
+    worked += sprintf(worked, "%s", words[first]);
+    text += strlen(words[first]);
+    while (sscanf(text, " %3u%n", &byte, &end) == 1) {
+        if (recipe.length == sizeof recipe.bytes)
+            fail("more bytes than there is room for");
+        recipe.bytes[recipe.length++] = (uint8_t)byte;
+        worked += sprintf(worked, "%s %d", comma, (uint8_t)byte);
+        comma = recipe.length % PANELRIGHTS_RECIPE_ENTRY_BYTES == 0 ? "," : "";
+        text += end + (text[end] == ',');
+    }
+    return 1;
+}
+
+static int take_call(const char *text, char *worked)
+{
+    unsigned activator, numbers[4];
+    uint8_t p[4];
+    uint16_t answer;
+    size_t i;
+
+    if (sscanf(text, "by %3u with %3u %3u %3u %3u", &activator, &numbers[0], &numbers[1], &numbers[2],
+               &numbers[3]) != 5)
+        return 0;
+    if (!recipe.given)
+        fail("no recipe has begun: %s", text);
+    for (i = 0; i < 4; i++)
+        p[i] = (uint8_t)numbers[i];
+    recipe.called = 1;
+    answer = obey_recipe((uint8_t)activator, p);
+    sprintf(worked, "by %d with %d %d %d %d: %d at place %d", (uint8_t)activator, p[0], p[1], p[2], p[3],
+            PANELRIGHTS_RECIPE_NUMBER(answer), PANELRIGHTS_RECIPE_PLACE(answer));
     return 1;
 }
 
@@ -224,8 +317,8 @@ static int take_emptying(const char *text, char *worked)
 }
 
 static int (*const forms[])(const char *text, char *worked) = {
-    take_instruction, take_question, take_counts, take_row,
-    take_zigzag,      take_listing,  take_pair,   take_emptying,
+    take_instruction, take_bytes,  take_call,    take_question, take_counts,
+    take_row,         take_zigzag, take_listing, take_pair,     take_emptying,
 };
 
 /* A case without a line would pass whatever the library does. */
@@ -234,6 +327,7 @@ static void end_case(void)
     if (done.cases > 0 && done.lines_of_case == 0)
         fail("a case without a line ends here");
     done.lines_of_case = 0;
+    end_recipe();
 }
 
 static void begin_case(const char *heading)
@@ -249,7 +343,7 @@ static void begin_case(const char *heading)
 static void work_out(const char *line)
 {
     const char *text = line + strspn(line, " ");
-    char worked[256];
+    char worked[1024];
     size_t i;
 
     for (i = 0; i < sizeof forms / sizeof *forms; i++) {
@@ -279,8 +373,8 @@ int main(void)
         fail("no case");
     printf("%lu cases of the machine with %lu instructions (%lu refused), ", done.cases, done.instructions,
            done.refused);
-    printf("%lu questions, %lu counts of a state and %lu writes to a record\n", done.questions, done.counts,
-           done.writes);
+    printf("%lu recipes (%lu refused), %lu questions, %lu counts of a state and %lu writes to a record\n",
+           done.recipes, done.refused_recipes, done.questions, done.counts, done.writes);
     free(site);
     return 0;
 }

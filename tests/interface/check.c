@@ -49,3 +49,49 @@ void step(struct guarded *site, const uint8_t instruction[4], uint8_t refusal)
     CHECK(memcmp(site->before, given.before, GUARD) == 0);
     CHECK(memcmp(site->behind, given.behind, GUARD) == 0);
 }
+
+/* Room for the bytes of a recipe, with others before and behind them. */
+struct lent {
+    uint8_t before[GUARD];
+    uint8_t bytes[100];
+    uint8_t behind[GUARD];
+};
+
+uint16_t obey_bytes(struct guarded *site, const uint8_t *bytes, size_t length, const struct caller *caller)
+{
+    const struct guarded given = *site;
+    const uint8_t *p = caller->parameters;
+    struct lent lent, untouched;
+    uint16_t answer;
+
+    CHECK(length <= sizeof lent.bytes);
+    memset(&lent, 0xa5, sizeof lent);
+    memcpy(lent.bytes, bytes, length);
+    untouched = lent;
+    answer = panelrights_recipe(site->state, sizeof site->state, lent.bytes, length, caller->activator, p[0],
+                                p[1], p[2], p[3]);
+    CHECK(memcmp(&lent, &untouched, sizeof lent) == 0);
+    CHECK(memcmp(site->before, given.before, GUARD) == 0);
+    CHECK(memcmp(site->behind, given.behind, GUARD) == 0);
+    if (answer != PANELRIGHTS_OK)
+        CHECK(memcmp(site->state, given.state, sizeof given.state) == 0);
+    return answer;
+}
+
+void expect(struct guarded *site, const struct recipe *recipe, const struct caller *caller, unsigned place,
+            unsigned number)
+{
+    const uint8_t *p = caller->parameters;
+    uint16_t answer = obey_bytes(site, recipe->entries[0], recipe->count * PANELRIGHTS_RECIPE_ENTRY_BYTES, caller);
+    size_t i;
+
+    if (answer != place * 256 + number) {
+        fprintf(stderr, "by %d with %d %d %d %d:\n", caller->activator, p[0], p[1], p[2], p[3]);
+        for (i = 0; i < recipe->count; i++) {
+            const uint8_t *entry = recipe->entries[i];
+
+            fprintf(stderr, "%d %d %d %d %d\n", entry[0], entry[1], entry[2], entry[3], entry[4]);
+        }
+    }
+    CHECK_NUMBER(answer, place * 256 + number);
+}

@@ -18,6 +18,8 @@ static uint8_t *room(void)
     return memory + ROOM;
 }
 
+static const uint8_t list_area[PANELRIGHTS_RECIPE_ENTRY_BYTES] = {PANELRIGHTS_LIST_AREA, 0, 31, 0, 0};
+
 static void use_record(uint8_t *state)
 {
     CHECK_NUMBER(panelrights_founding(state, PANELRIGHTS_STATE_BYTES), PANELRIGHTS_OK);
@@ -40,8 +42,40 @@ static void use_short_record(uint8_t *state, size_t length)
 {
     CHECK_NUMBER(panelrights_founding(state, length), PANELRIGHTS_BUFFER_LENGTH);
     CHECK_NUMBER(panelrights_step(state, length, PANELRIGHTS_LIST_AREA, 0, 31, 0), PANELRIGHTS_UNSOUND_STATE);
+    CHECK_NUMBER(panelrights_recipe(state, length, list_area, sizeof list_area, 0, 0, 0, 0, 0),
+                 PANELRIGHTS_UNSOUND_STATE);
     CHECK_NUMBER(panelrights_access(state, length, 0, 0),
                  PANELRIGHTS_ACCESS_REFUSED + PANELRIGHTS_UNSOUND_STATE);
+}
+
+/* So many bytes of a recipe that lists areas 31, 30, 29 and on. */
+static void use_recipe(uint8_t *state, uint8_t *recipe, size_t length)
+{
+    const int fits = length > 0 && length <= 80 && length % 5 == 0;
+    size_t i;
+
+    for (i = 0; i < length; i++)
+        recipe[i] = list_area[i % 5];
+    for (i = 2; i < length; i += 5)
+        recipe[i] = (uint8_t)(31 - i / 5);
+    CHECK_NUMBER(panelrights_founding(state, PANELRIGHTS_STATE_BYTES), PANELRIGHTS_OK);
+    CHECK_NUMBER(panelrights_recipe(state, PANELRIGHTS_STATE_BYTES, recipe, length, 0, 0, 0, 0, 0),
+                 fits ? PANELRIGHTS_OK : PANELRIGHTS_RECIPE_FORM);
+    CHECK_NUMBER(PANELRIGHTS_HAS_AREA(state, 31), fits);
+    CHECK_NUMBER(PANELRIGHTS_HAS_AREA(state, 32 - length / 5), fits);
+}
+
+/* Zeros, so many that the length would fit in 32 bits. */
+static void use_long_recipe(uint8_t *state)
+{
+    const size_t length = ((size_t)1 << 32) + 5;
+    uint8_t *zeros = mmap(NULL, length, PROT_READ, MAP_PRIVATE | MAP_ANONYMOUS | MAP_NORESERVE, -1, 0);
+
+    CHECK(zeros != MAP_FAILED);
+    CHECK_NUMBER(panelrights_founding(state, PANELRIGHTS_STATE_BYTES), PANELRIGHTS_OK);
+    CHECK_NUMBER(panelrights_recipe(state, PANELRIGHTS_STATE_BYTES, zeros, length, 0, 0, 0, 0, 0),
+                 PANELRIGHTS_RECIPE_FORM);
+    CHECK(munmap(zeros, length) == 0);
 }
 
 /*
@@ -75,6 +109,10 @@ void test_edges(void)
     use_record(end - PANELRIGHTS_STATE_BYTES);
     for (length = 0; length < PANELRIGHTS_STATE_BYTES; length += 65)
         use_short_record(end - length, length);
+    use_recipe(end - PANELRIGHTS_STATE_BYTES, begin, 80);
+    for (length = 0; length <= 100; length++)
+        use_recipe(begin, end - length, length);
+    use_long_recipe(begin);
     use_file(begin, sizeof good_file);
     for (length = 0; length <= sizeof good_file; length++)
         use_file(end - length, length);

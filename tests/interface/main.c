@@ -18,6 +18,9 @@ int main(void)
 {
     test_names();
     test_machine();
+    test_recipes();
+    test_forms();
+    test_agreement();
     test_records();
     test_files();
     test_marks();

@@ -40,6 +40,27 @@ static void call_step(void)
     right &= panelrights_step(state, sizeof state - 1, 1, 0, 1, 0) == PANELRIGHTS_UNSOUND_STATE;
 }
 
+/*
+ * In the state of the good file: sixteen instructions that are accepted and lead back to it, removals,
+ * imports and exports among them; the same, with the removal of an export that others rest on as the last.
+ */
+static void call_recipe(void)
+{
+    static const uint8_t remove_export[PANELRIGHTS_RECIPE_ENTRY_BYTES] = {PANELRIGHTS_REMOVE_EXPORT, 0, 1, 1, 3};
+    uint8_t entries[PANELRIGHTS_RECIPE_MOST][PANELRIGHTS_RECIPE_ENTRY_BYTES] = {
+        {10, 0, 0, 1, 3}, {6, 0, 0, 0, 2},  {5, 0, 0, 0, 2},  {9, 0, 0, 1, 3},
+        {9, 0, 2, 1, 3},  {11, 0, 2, 1, 3}, {11, 0, 0, 1, 3}, {12, 0, 0, 1, 3},
+        {12, 0, 2, 1, 3}, {10, 0, 2, 1, 3}, {7, 0, 2, 1, 2},  {9, 0, 0, 1, 2},
+        {10, 0, 0, 1, 2}, {8, 0, 2, 1, 2},  {1, 1, 1, 1, 0},  {2, 1, 1, 1, 0},
+    };
+
+    right &= panelrights_recipe(state, sizeof state, entries[0], 80, 0, 0, 3, 10, 9) == 0;
+    memcpy(entries[15], remove_export, sizeof remove_export);
+    right &= panelrights_recipe(state, sizeof state, entries[0], 80, 0, 0, 3, 10, 9) == 16 * 256 + 11;
+    right &= panelrights_recipe(state, sizeof state, entries[0], 79, 0, 0, 3, 10, 9) == 14;
+    right &= panelrights_recipe(state, sizeof state - 1, entries[0], 80, 0, 0, 3, 10, 9) == 12;
+}
+
 static void call_read_file(void)
 {
     right &= panelrights_read_file(good_file, 107, state, sizeof state) == PANELRIGHTS_FILE_LENGTH;
@@ -93,8 +114,8 @@ static size_t measure(struct call *call)
 int main(void)
 {
     struct call calls[] = {
-        {"founding", call_founding, NULL}, {"step", call_step, NULL},   {"read_file", call_read_file, NULL},
-        {"access", call_access, NULL},     {"label", call_label, NULL},
+        {"founding", call_founding, NULL}, {"step", call_step, NULL},     {"read_file", call_read_file, NULL},
+        {"access", call_access, NULL},     {"recipe", call_recipe, NULL}, {"label", call_label, NULL},
     };
     size_t i;
 

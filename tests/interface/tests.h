@@ -39,6 +39,32 @@ void found(struct guarded *site);
  * case. */
 void step(struct guarded *site, const uint8_t instruction[4], uint8_t refusal);
 
+/* A recipe: each instruction as code, kind of a, value of a, kind of b, value of b. */
+struct recipe {
+    size_t count;
+    uint8_t entries[PANELRIGHTS_RECIPE_MOST][PANELRIGHTS_RECIPE_ENTRY_BYTES];
+};
+
+/* Who calls for a recipe, and with which parameters. */
+struct caller {
+    uint8_t activator;
+    uint8_t parameters[4];
+};
+
+/* Hands up to 100 bytes over as a recipe. Checks that they and the guards stay, and unless the answer is 0
+ * every byte of the record. */
+uint16_t obey_bytes(struct guarded *site, const uint8_t *bytes, size_t length, const struct caller *caller);
+
+/* So with a recipe, whose answer is checked too. */
+void expect(struct guarded *site, const struct recipe *recipe, const struct caller *caller, unsigned place,
+            unsigned number);
+
+/* A recipe of 16 instructions, by which users 16 to 31 become owners of the area. */
+struct recipe add_owners(uint8_t area);
+
+/* Another instruction at this place of the recipe, from 1. */
+void put(struct recipe *recipe, size_t place, const uint8_t entry[PANELRIGHTS_RECIPE_ENTRY_BYTES]);
+
 /* A site file: areas 0 and 1 lie in area 2, object 9 is defined and exported by area 1, imported by area 0.
  */
 enum { GOOD_FILE_BYTES = 108 };
@@ -46,6 +72,9 @@ extern const uint8_t good_file[GOOD_FILE_BYTES];
 
 void test_names(void);
 void test_machine(void);
+void test_recipes(void);
+void test_forms(void);
+void test_agreement(void);
 void test_records(void);
 void test_files(void);
 void test_edges(void);

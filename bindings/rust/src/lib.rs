@@ -31,6 +31,10 @@
 //! # }
 //! ```
 //!
+//! What is done in the same way each time, as opening a school, is a [`Recipe`]: 1 to 16 instructions, written once,
+//! whose numbers are fixed or come with the call. [`State::recipe`] obeys it entirely or not at all; a refusal says at
+//! which instruction, and why.
+//!
 //! `make lib` in the repository builds the static library. The environment variable `PANELRIGHTS_LIB_DIR` names another folder to
 //! link it from. A call takes less than 64 KiB of stack.
 
@@ -40,11 +44,13 @@ pub mod sys;
 
 mod file;
 mod instruction;
+mod recipe;
 mod refusal;
 mod state;
 
 pub use file::{label, read_file};
 pub use instruction::{Instruction, Kind};
+pub use recipe::{Operand, Recipe, RecipeLength, RecipeRefused};
 pub use refusal::{NoRefusal, Refusal};
 pub use state::{State, AREAS, MOST_STEPS, OBJECTS, USERS};
 

@@ -93,6 +93,10 @@ refusals! {
     /// The bytes are no record, or the record's state is not sound.
     UnsoundState = 12: "The record of the site is damaged, so nothing is decided on it. Go back to the site file or to the last \
         good copy.";
+    /// The bytes are no recipe: a length that is not a multiple of 5 from 5 to 80, a kind above 1, or a parameter above
+    /// 3. A [`Recipe`](crate::Recipe) is never refused so, only bytes that are to become one.
+    RecipeForm = 14: "The recipe can't be read: it is empty, has more than 16 instructions, was cut off, or was altered. \
+        Fetch it again from where it was saved; if it came with the program, tell the program's maker.";
     /// The area would import an object that it defines.
     OwnImport = 15: "The table is stored on this area itself, so the area sees it and has nobody to borrow it from. If another \
         area is to borrow it, enter that area's number; to lend it to an area around this one, let this one export it.";

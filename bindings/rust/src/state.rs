@@ -1,9 +1,11 @@
 //! The state of a site.
 
 use crate::instruction::Instruction;
+use crate::recipe::{Recipe, RecipeRefused};
 use crate::refusal::Refusal;
 use crate::sys;
 use std::fmt;
+use std::num::NonZeroU8;
 
 /// How many users there can be: they are numbered from 0 on, and so are areas and objects.
 pub const USERS: u8 = 32;
@@ -41,8 +43,9 @@ const STRUCTURE: Part = Part::relation(3200, AREAS);
 const IMPORTS: Part = Part::relation(4224, OBJECTS);
 const EXPORTS: Part = Part::relation(6272, OBJECTS);
 
-/// A sound state of a site: the founding one, that of a site file, that of a record, or what steps made of one of
-/// these. A state that is not sound can't be had, so 12 never comes from [`step`](State::step) or [`access`](State::access).
+/// A sound state of a site: the founding one, that of a site file, that of a record, or what steps and recipes made of
+/// one of these. A state that is not sound can't be had, so 12 never comes from [`step`](State::step),
+/// [`recipe`](State::recipe) or [`access`](State::access).
 ///
 /// It is 8,320 bytes on the heap; equal states have equal bytes.
 ///
@@ -136,6 +139,59 @@ impl State {
         match unsafe { sys::panelrights_step(record.as_mut_ptr(), record.len(), code, activator, a, b) } {
             0 => Ok(()),
             refusal => Err(Refusal::of(refusal)),
+        }
+    }
+
+    /// Obeys a recipe, entirely or not at all: its instructions in turn, all by this activator, with these numbers for
+    /// the parameters [`P0` to `P3`](crate::Operand). What the recipe does not use of these may have any value. After a
+    /// refusal the state is the one before, and [`RecipeRefused`] says which instruction was refused, and why; those in
+    /// front of it would have been accepted.
+    ///
+    /// ```
+    /// use panelrights::Operand::{P0, P1, P2};
+    /// use panelrights::{Kind, Recipe, Refusal, State};
+    ///
+    /// // The keys of area p0 go from user p1 to user p2.
+    /// const KEYS: Recipe =
+    ///     Recipe::new([Kind::AddOwner { area: P0, user: P2 }, Kind::RemoveOwner { area: P0, user: P1 }]);
+    ///
+    /// let mut site = State::founding();
+    /// let before = site.clone();
+    /// // User 7 has no keys to give: user 9 does not get any either.
+    /// let refused = site.recipe(&KEYS, 0, [0, 7, 9, 0]).unwrap_err();
+    /// assert_eq!(refused.refusal, Refusal::NotListed);
+    /// assert_eq!(refused.place.unwrap().get(), 2);
+    /// assert_eq!(site, before);
+    ///
+    /// assert_eq!(site.recipe(&KEYS, 0, [0, 0, 9, 0]), Ok(()));
+    /// assert!(site.owns(9, 0) && !site.owns(0, 0));
+    /// ```
+    ///
+    /// The lending guarantee says of any list of instructions: an area that is listed at the start, and none of whose
+    /// owners activates one of them, keeps its owners, objects, imports and exports, and access to what it imports or
+    /// exports. For it an accepted recipe counts as its instructions, which [`Recipe::instructions`] gives, and a
+    /// refused one as none.
+    pub fn recipe(&mut self, recipe: &Recipe, activator: u8, parameters: [u8; 4]) -> Result<(), RecipeRefused> {
+        self.recipe_bytes(recipe.as_bytes(), activator, parameters)
+    }
+
+    /// The same for any bytes.
+    pub(crate) fn recipe_bytes(
+        &mut self,
+        recipe: &[u8],
+        activator: u8,
+        [p0, p1, p2, p3]: [u8; 4],
+    ) -> Result<(), RecipeRefused> {
+        let record = self.record.as_mut_slice();
+        let (state, state_len, bytes, bytes_len) = (record.as_mut_ptr(), record.len(), recipe.as_ptr(), recipe.len());
+        // SAFETY: both pointers are those of live slices, handed over with their lengths; the recipe is no part of the
+        // record, which is borrowed here alone.
+        match unsafe { sys::panelrights_recipe(state, state_len, bytes, bytes_len, activator, p0, p1, p2, p3) } {
+            0 => Ok(()),
+            answer => {
+                let [number, place] = answer.to_le_bytes();
+                Err(RecipeRefused { refusal: Refusal::of(number), place: NonZeroU8::new(place) })
+            }
         }
     }
 

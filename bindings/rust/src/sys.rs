@@ -7,6 +7,14 @@
 
 /// How many bytes the record of a state has: what [`panelrights_state_bytes`] answers.
 pub const STATE_BYTES: usize = 8320;
+/// How many bytes each instruction of a recipe has.
+pub const RECIPE_ENTRY_BYTES: usize = 5;
+/// How many instructions a recipe may have.
+pub const RECIPE_MOST: usize = 16;
+/// The kind of a number in a recipe whose value is the number itself.
+pub const FIXED: u8 = 0;
+/// The kind of a number in a recipe whose value, 0 to 3, says which parameter of the call is the number.
+pub const PARAMETER: u8 = 1;
 /// What [`panelrights_access`] answers for 'no access'.
 pub const NO_ACCESS: u16 = 255;
 /// What [`panelrights_access`] adds to a refusal.
@@ -30,6 +38,25 @@ extern "C" {
     /// # Safety
     /// `state_len` bytes may be read and written at `state`.
     pub fn panelrights_step(state: *mut u8, state_len: usize, code: u8, activator: u8, a: u8, b: u8) -> u8;
+
+    /// Obeys a recipe, entirely or not at all. 0, and the record is that of the state after its last instruction; or
+    /// the place of the first that is refused, from 1, * 256 + its refusal, and no byte is changed. The place beside
+    /// 12, and beside 14 for bytes that are no recipe, is 0.
+    ///
+    /// # Safety
+    /// `state_len` bytes may be read and written at `state`, `recipe_len` bytes read at `recipe`, and the two do not
+    /// overlap.
+    pub fn panelrights_recipe(
+        state: *mut u8,
+        state_len: usize,
+        recipe: *const u8,
+        recipe_len: usize,
+        activator: u8,
+        p0: u8,
+        p1: u8,
+        p2: u8,
+        p3: u8,
+    ) -> u16;
 
     /// The number of steps in a shortest chain to the area, [`NO_ACCESS`], or [`ACCESS_REFUSED`] and the refusal. 256
     /// is no area, and not area 0.

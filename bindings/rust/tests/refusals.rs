@@ -4,7 +4,7 @@ use panelrights::{NoRefusal, Refusal};
 use std::collections::HashSet;
 
 fn named() -> impl Iterator<Item = u8> {
-    (1..=12).chain([15]).chain(21..=29).chain([31])
+    (1..=12).chain([14, 15]).chain(21..=29).chain([31])
 }
 
 #[test]
@@ -36,6 +36,7 @@ fn each_name_has_its_number() {
         (Refusal::WouldLackAccess, 10),
         (Refusal::WouldLoseAccess, 11),
         (Refusal::UnsoundState, 12),
+        (Refusal::RecipeForm, 14),
         (Refusal::OwnImport, 15),
         (Refusal::FileTooShort, 21),
         (Refusal::FileVersion, 22),
@@ -68,6 +69,11 @@ fn each_has_words_of_its_own() {
     assert_eq!(
         Refusal::LastOne.to_string(),
         "Each area keeps an owner, and each site an area: the last one can't go. Add another one first."
+    );
+    assert_eq!(
+        Refusal::RecipeForm.to_string(),
+        "The recipe can't be read: it is empty, has more than 16 instructions, was cut off, or was altered. Fetch it \
+         again from where it was saved; if it came with the program, tell the program's maker."
     );
     let own_import = Refusal::OwnImport.to_string();
     for said in ["stored on this area", "nobody to borrow it from", "another area", "export it"] {

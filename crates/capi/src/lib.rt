@@ -6,9 +6,10 @@ ghost use Rattle.instructions.specs.Instructions.{fourBytes};
 ghost use Rattle.marks.specs.Marks.{lowest};
 ghost use Rattle.access.specs.Answer.{answerNumber};
 ghost use Rattle.interface.specs.Interface.{foundingBuffer, stepNumber, stepBuffer, answerOf, accessNumber, fileNumber};
-ghost use Rattle.interface.specs.Interface.{fileBuffer, labelNumber};
+ghost use Rattle.interface.specs.Interface.{callOf, recipeAnswer, recipeBuffer, fileBuffer, labelNumber};
 use access::Answer;
 use machine::Reply;
+use recipes::Call;
 use state::State;
 
 // How many bytes the record of a state has.
@@ -42,6 +43,36 @@ pub extern "C" fn panelrights_step(state: &mut [u8], code: u8, activator: u8, a:
     }
     let next = outcome.state;
     record_writer::write(next, state)
+}
+
+// Obeys a recipe, entirely or not at all: 0 and the state after it in place, or place * 256 + number and no byte
+// changed.
+#[no_mangle]
+pub extern "C" fn panelrights_recipe<'a>(
+    state: &'a mut [u8],
+    recipe: &'a [u8],
+    activator: u8,
+    p0: u8,
+    p1: u8,
+    p2: u8,
+    p3: u8,
+) -> u16
+    ensures number { λ r. ⌜ r
+        ≡ recipeAnswer (now (state .entry)) (now (recipe .entry)) (callOf activator p0 p1 p2 p3) ⌝ }
+    ensures buffer { λ _. ⌜ now (state .exit)
+        ≡ recipeBuffer (now (state .entry)) (now (recipe .entry)) (callOf activator p0 p1 p2 p3) ⌝ }
+{
+    let call = Call {
+        activator: activator,
+        parameters: [p0, p1, p2, p3],
+    };
+    let outcome = recipes::obey(record_reader::state_of(state), recipe, call);
+    let refusal = outcome.refusal;
+    if refusal != 0 {
+        return outcome.place as u16 * 256 + refusal as u16;
+    }
+    let next = outcome.state;
+    record_writer::write(next, state) as u16
 }
 
 // The number that stands for an answer: the steps, or 255 for no access.

@@ -1,12 +1,11 @@
 -- The claims of specs/Claims.antt, each proved under its name.
 -- Assumes nothing.
-use Prim.Native.Nat.{ℕ, _+_, _*_}
+use Prim.Native.Nat.{ℕ, _+_, _*_, _/_, _%_, _<_}
 use mathlib.Core.Path.{_≡_, refl, sym, ap, subst, _∙_}
 use mathlib.Core.Logic.{_⊎_, inl, inr}
 use mathlib.Core.Bool.{Bool, true, false, _||_, not, cond}
-use mathlib.Core.List.{[], _∷_, map}
+use mathlib.Core.List.{List, [], _∷_, map}
 use native.Mathlib.Omega.{arith}
-use native.Mathlib.Decide.{ℕ-discrete}
 use lib.Dec.{T, eqb, ltb, eqb→eq}
 use lib.ListN.{length}
 use borrow.Author.Tests.{le-ltb}
@@ -23,7 +22,7 @@ use Rattle.access.specs.declared.Answer.the-variants.{Steps, NoAccess}
 use Rattle.access.proofs.Laws.{answer-is-right}
 use Rattle.access.specs.Claims.{Right}
 use Rattle.records.specs.Record.{recordSize, bytesOf, isRecord, stateOf, isSized}
-use Rattle.records.proofs.Laws.{state-of-bytes, bytes-of-state, bytes-are-record, bytes-length, record-length, stored-sized, stored-other}
+use Rattle.records.proofs.Laws.{state-shaped, state-of-bytes, bytes-of-state, stored-sized, stored-other}
 use Rattle.machine.specs.Step.{stepOf, run, questionRefusals, replyOf, questionNumbers}
 use Rattle.instructions.specs.Instructions.{Bytes}
 use Rattle.guarantees.specs.Demand3.{Upheld}
@@ -33,23 +32,28 @@ use Rattle.machine.proofs.Laws.{run-none, run-more, reply-by-first}
 use Rattle.machine.proofs.Laws as machine
 use Rattle.guarantees.proofs.Demand3.{demand-3}
 use Rattle.guarantees.proofs.TakingBack.{taking-back}
+use Rattle.recipes.specs.Run.{recipeOf}
+use Rattle.recipe_guarantees.specs.Commands.{Command, single, recipe, after, afterAll, allCounted}
+use Rattle.recipe_guarantees.proofs.Laws.{recipe-numbers, recipe-two-digits, place-at-most, place-zero-exactly}
+use Rattle.recipe_guarantees.proofs.Commands.{commands-upheld}
 use Rattle.site_file.specs.Reading.{readOf, readNumbers}
 use Rattle.label_finder.specs.Finder.{hasLabel, textAt, textLength}
 use Rattle.site_file.proofs.Laws.{read-sound, read-numbers, read-number}
 use Rattle.label_finder.proofs.Laws.{label-small, label-behind-front, no-label-at-front}
-use Rattle.interface.specs.Interface.{stepNumber, stepBuffer, answerOf, accessNumber, fileNumber, runBuffer}
+use Rattle.interface.specs.Interface.{changedBy, stepBuffer, answerOf, accessNumber, fileNumber, runBuffer}
+use Rattle.interface.specs.Interface.{placed, recipeAnswer, commandBuffer, commandsBuffer}
 use Rattle.interface.specs.Claims
 use Rattle.interface.specs.Claims.{isAccessNumber}
 use Rattle.interface.proofs.Steps
+use Rattle.interface.proofs.Steps.{Obeys, commandNumber}
 
 -- ---- a state's record
 pub step-is-step : Claims.StepIsStep
-step-is-step s h x =
-    let same = state-of-bytes s h in
-    record {
-      number = Steps.number-is (bytesOf s) x ∙ ap (λ (t : Site). stepOf t x .refusal) same;
-      buffer = Steps.after-record (bytesOf s) x (bytes-are-record s h) ∙ ap (λ (t : Site). bytesOf (stepOf t x .state)) same;
-    }
+step-is-step s h x = record { number = Steps.state-number (Steps.steps x) s h; buffer = Steps.state-after (Steps.steps x) s h }
+
+pub recipe-is-recipe : Claims.RecipeIsRecipe
+recipe-is-recipe s h bytes call =
+    record { number = Steps.state-number (Steps.recipes bytes call) s h; buffer = Steps.state-after (Steps.recipes bytes call) s h }
 
 pub access-is-answer : Claims.AccessIsAnswer
 access-is-answer s h a b = Steps.reply-is (bytesOf s) a b ∙ ap (λ (t : Site). answerOf (replyOf t a b)) (state-of-bytes s h)
@@ -73,8 +77,9 @@ pub run-is-run : Claims.RunIsRun
 unfolding runBuffer
 run-is-run buffer t [] = sym (bytes-of-state buffer t) ∙ ap bytesOf (sym (run-none (stateOf buffer)))
 run-is-run buffer t (x ∷ rest) =
-    run-is-run (stepBuffer buffer x) (Steps.next-record buffer x t) rest
-    ∙ ap bytesOf (ap (λ (s : Site). run s rest) (Steps.next-state buffer x t) ∙ sym (run-more (stateOf buffer) x rest))
+    let o = Steps.steps x in
+    run-is-run (stepBuffer buffer x) (Steps.next-record o buffer t) rest
+    ∙ ap bytesOf (ap (λ (s : Site). run s rest) (Steps.next-state o buffer t) ∙ sym (run-more (stateOf buffer) x rest))
 
 pub records-upheld : Claims.RecordsUpheld
 records-upheld buffer h list =
@@ -83,13 +88,38 @@ records-upheld buffer h list =
     let same : stateOf (runBuffer buffer list) ≡ after = ap stateOf (run-is-run buffer (Steps.sound-record buffer h) list) ∙ state-of-bytes after (upheld .sound .shaped) in
     subst (λ (t : Site). Upheld (stateOf buffer) list t) (sym same) upheld
 
+-- ---- a list of commands
+obeying : (c : Command) → Obeys (commandNumber c) (λ s. after s c)
+obeying (single x) = Steps.steps x
+obeying (recipe bytes call) = Steps.recipes bytes call
+
+by-command : (buffer : List ℕ) (c : Command) → commandBuffer buffer c ≡ changedBy (commandNumber c) (λ s. after s c) buffer
+by-command buffer (single x) = refl
+by-command buffer (recipe bytes call) = refl
+
+pub commands-are-commands : Claims.CommandsAreCommands
+unfolding commandsBuffer afterAll
+commands-are-commands buffer t [] = sym (bytes-of-state buffer t)
+commands-are-commands buffer t (c ∷ rest) =
+    let o = obeying c in
+    ap (λ (l : List ℕ). commandsBuffer l rest) (by-command buffer c)
+    ∙ commands-are-commands (changedBy (commandNumber c) (λ s. after s c) buffer) (Steps.next-record o buffer t) rest
+    ∙ ap (λ (s : Site). bytesOf (afterAll s rest)) (Steps.next-state o buffer t)
+
+pub records-upheld-by-commands : Claims.RecordsUpheldByCommands
+records-upheld-by-commands buffer h cs =
+    let end = afterAll (stateOf buffer) cs in
+    let upheld = commands-upheld (stateOf buffer) cs h in
+    let same : stateOf (commandsBuffer buffer cs) ≡ end = ap stateOf (commands-are-commands buffer (Steps.sound-record buffer h) cs) ∙ state-of-bytes end (upheld .sound .shaped) in
+    subst (λ (t : Site). Upheld (stateOf buffer) (allCounted (stateOf buffer) cs) t) (sym same) upheld
+
 -- ---- taking back
 pub taking-back-bytes : Claims.TakingBackBytes
 taking-back-bytes buffer x remove opposite e =
     record {
-      accepted = Steps.number-is (stepBuffer buffer x) y ∙ ap (λ (t : Site). stepOf t y .refusal) next ∙ taken .accepted;
+      accepted = Steps.number-is (Steps.steps y) (stepBuffer buffer x) ∙ ap (λ (t : Site). stepOf t y .refusal) next ∙ taken .accepted;
       same-bytes =
-          Steps.after-record (stepBuffer buffer x) y (Steps.next-record buffer x here)
+          Steps.after-record (Steps.steps y) (stepBuffer buffer x) (Steps.next-record (Steps.steps x) buffer here)
           ∙ ap bytesOf (ap (λ (t : Site). stepOf t y .state) next ∙ taken .earlier)
           ∙ bytes-of-state buffer here;
     }
@@ -98,36 +128,58 @@ taking-back-bytes buffer x remove opposite e =
     y = matchingRemove remove x
 
     here : T (isRecord buffer)
-    here = Steps.obeyed buffer x e
+    here = Steps.obeyed (Steps.steps x) buffer e
 
     next : stateOf (stepBuffer buffer x) ≡ stepOf (stateOf buffer) x .state
-    next = Steps.next-state buffer x here
+    next = Steps.next-state (Steps.steps x) buffer here
 
     taken : TakenBack (stateOf buffer) x y
-    taken = taking-back (stateOf buffer) (Steps.obeyed-sound buffer x e) x remove opposite (sym (Steps.number-is buffer x) ∙ e)
+    taken =
+        taking-back (stateOf buffer) (Steps.obeyed-sound (Steps.steps x) buffer e) x remove opposite
+        (sym (Steps.number-is (Steps.steps x) buffer) ∙ e)
 
 -- ---- refusals
 pub refused-same-bytes : Claims.RefusedSameBytes
-refused-same-bytes = Steps.refused
+refused-same-bytes buffer x f = Steps.refused (Steps.steps x) buffer f
+
+pub refused-recipe-same-bytes : Claims.RefusedRecipeSameBytes
+refused-recipe-same-bytes buffer bytes call f = Steps.refused (Steps.recipes bytes call) buffer f
 
 pub no-record-is-12 : Claims.NoRecordIs12
-unfolding stepNumber
-no-record-is-12 buffer x e = ap (λ (b : Bool). cond b (stepOf (stateOf buffer) x .refusal) 12) e
+no-record-is-12 buffer x e = Steps.no-record (Steps.steps x) buffer e
+
+pub no-record-no-recipe : Claims.NoRecordNoRecipe
+no-record-no-recipe buffer bytes call e = Steps.no-record (Steps.recipes bytes call) buffer e
 
 pub no-record-no-answer : Claims.NoRecordNoAnswer
 unfolding accessNumber
 no-record-no-answer buffer a b e = ap (λ (v : Bool). answerOf (cond v (replyOf (stateOf buffer) a b) (Refused 12))) e
 
 pub step-length : Claims.StepLength
-step-length buffer x = go (ℕ-discrete (stepNumber buffer x) 0)
-  where
-    go : Dec (stepNumber buffer x ≡ 0) → length (stepBuffer buffer x) ≡ length buffer
-    go (yes e) = ap length (Steps.accepted buffer x e) ∙ bytes-length (stepOf (stateOf buffer) x .state) ∙ sym (record-length buffer (Steps.obeyed buffer x e))
-    go (no f) = ap length (Steps.refused buffer x f)
+step-length buffer x = Steps.same-length (Steps.steps x) buffer
+
+pub recipe-length : Claims.RecipeLength
+recipe-length buffer bytes call = Steps.same-length (Steps.recipes bytes call) buffer
 
 -- ---- the numbers
 pub step-numbers : Claims.StepNumbers
-step-numbers buffer x = rw (Steps.number-is buffer x) (machine.refusal-numbers (stateOf buffer) x)
+step-numbers buffer x = rw (Steps.number-is (Steps.steps x) buffer) (machine.refusal-numbers (stateOf buffer) x)
+
+pub recipe-answer-parts : Claims.RecipeAnswerParts
+recipe-answer-parts buffer bytes call =
+    let s = stateOf buffer in
+    let v = recipeOf s bytes call in
+    let n : recipeAnswer buffer bytes call ≡ placed v = Steps.number-is (Steps.recipes bytes call) buffer in
+    let low : v .refusal < 100 = recipe-two-digits s bytes call in
+    let refusal : recipeAnswer buffer bytes call % 256 ≡ v .refusal = omega arith in
+    let place : recipeAnswer buffer bytes call / 256 ≡ v .place = omega arith in
+    record {
+      refusal = refusal;
+      place = place;
+      known = rw refusal (recipe-numbers s bytes call);
+      most = rw place (place-at-most s bytes call);
+      place-0 = rw (refusal, place) (place-zero-exactly s (state-shaped buffer) bytes call);
+    }
 
 pub file-numbers : Claims.FileNumbers
 unfolding fileNumber

@@ -1,10 +1,10 @@
 -- What is claimed of the C interface. Each claim is a type, which proofs/Laws.antt inhabits under the claim's name. The
 -- words in quotation marks are those of include/panelrights.h.
-use Prim.Native.Nat.{ℕ, _+_, _/_, _%_}
+use Prim.Native.Nat.{ℕ, _+_, _/_, _%_, _≤_}
 use mathlib.Core.Path.{_≡_}
 use mathlib.Core.Logic.{_↔_}
 use mathlib.Core.Bool.{Bool, false, _||_, not}
-use mathlib.Core.List.{List, _∷_, map}
+use mathlib.Core.List.{List, [], _∷_, map}
 use lib.Dec.{T, eqb, ltb}
 use lib.ListN.{length}
 use Rattle.state.specs.Checks.{among}
@@ -17,11 +17,16 @@ use Rattle.refusals.specs.Refusals.{stepNumbers}
 use Rattle.machine.specs.Step.{stepOf, run, questionNumbers, replyOf}
 use Rattle.guarantees.specs.Demand3.{Upheld}
 use Rattle.guarantees.specs.TakingBack.{Opposite, matchingRemove}
+use Rattle.recipes.specs.Run.{recipeOf}
+use Rattle.recipes.specs.declared.Call.{Call}
+use Rattle.recipe_guarantees.specs.Claims.{recipeNumbers}
+use Rattle.recipe_guarantees.specs.Commands.{Command, afterAll, allCounted}
 use Rattle.site_file.specs.Reading.{readNumbers, readOf}
 use Rattle.site_format.specs.Format.{AreBytes}
 use Rattle.label_finder.specs.Finder.{hasLabel, textAt, textLength}
 use Rattle.interface.specs.Interface.{foundingBuffer, stepNumber, stepBuffer, answerOf, accessNumber, fileNumber}
-use Rattle.interface.specs.Interface.{fileBuffer, labelNumber, runBuffer}
+use Rattle.interface.specs.Interface.{fileBuffer, labelNumber, runBuffer, placed, recipeAnswer, recipeBuffer}
+use Rattle.interface.specs.Interface.{commandsBuffer}
 
 -- ---- with a state's record, the interface does what the machine does with the state
 pub record StepsAs (s : Site) (x : Bytes) : Type 0 where
@@ -30,6 +35,13 @@ pub record StepsAs (s : Site) (x : Bytes) : Type 0 where
 
 abbrev pub StepIsStep : Type 0
 StepIsStep = (s : Site) → Shaped s → (x : Bytes) → StepsAs s x
+
+pub record RecipesAs (s : Site) (bytes : List ℕ) (call : Call) : Type 0 where
+  pub number : recipeAnswer (bytesOf s) bytes call ≡ placed (recipeOf s bytes call)
+  pub buffer : recipeBuffer (bytesOf s) bytes call ≡ bytesOf (recipeOf s bytes call .state)
+
+abbrev pub RecipeIsRecipe : Type 0
+RecipeIsRecipe = (s : Site) → Shaped s → (bytes : List ℕ) (call : Call) → RecipesAs s bytes call
 
 abbrev pub AccessIsAnswer : Type 0
 AccessIsAnswer = (s : Site) → Shaped s → (a b : ℕ) → accessNumber (bytesOf s) a b ≡ answerOf (replyOf s a b)
@@ -60,6 +72,19 @@ RecordsUpheld =
     (buffer : List ℕ) → Sound (stateOf buffer) → (list : List Bytes)
     → Upheld (stateOf buffer) list (stateOf (runBuffer buffer list))
 
+-- and a program that calls recipes too has the state after its commands
+abbrev pub CommandsAreCommands : Type 0
+CommandsAreCommands =
+    (buffer : List ℕ) → T (isRecord buffer) → (cs : List Command)
+    → commandsBuffer buffer cs ≡ bytesOf (afterAll (stateOf buffer) cs)
+
+-- so the third demand holds of its records, where an accepted recipe counts as its instructions and a refused one as
+-- none (document 02, point 1)
+abbrev pub RecordsUpheldByCommands : Type 0
+RecordsUpheldByCommands =
+    (buffer : List ℕ) → Sound (stateOf buffer) → (cs : List Command)
+    → Upheld (stateOf buffer) (allCounted (stateOf buffer) cs) (stateOf (commandsBuffer buffer cs))
+
 -- ---- document 02, point 7: "An add (an odd code) that got 0 is taken back by the matching remove: code + 1, with the
 -- same activator, a and b." That each add has its remove, and that it is the next code, is EveryAdd (guarantees).
 -- "While the record is as the add left it, the remove gets 0, and every byte is then as it was before the add",
@@ -77,20 +102,46 @@ TakingBackBytes =
 abbrev pub RefusedSameBytes : Type 0
 RefusedSameBytes = (buffer : List ℕ) (x : Bytes) → (stepNumber buffer x ≡ 0 → ⊥) → stepBuffer buffer x ≡ buffer
 
+abbrev pub RefusedRecipeSameBytes : Type 0
+RefusedRecipeSameBytes =
+    (buffer bytes : List ℕ) (call : Call) → (recipeAnswer buffer bytes call ≡ 0 → ⊥)
+    → recipeBuffer buffer bytes call ≡ buffer
+
 -- "A record of another length, or with a byte other than 0 and 1, is 12."
 abbrev pub NoRecordIs12 : Type 0
 NoRecordIs12 = (buffer : List ℕ) (x : Bytes) → isRecord buffer ≡ false → stepNumber buffer x ≡ 12
 
+abbrev pub NoRecordNoRecipe : Type 0
+NoRecordNoRecipe =
+    (buffer bytes : List ℕ) (call : Call) → isRecord buffer ≡ false → recipeAnswer buffer bytes call ≡ 12
+
 abbrev pub NoRecordNoAnswer : Type 0
 NoRecordNoAnswer = (buffer : List ℕ) (a b : ℕ) → isRecord buffer ≡ false → accessNumber buffer a b ≡ 256 + 12
 
--- a step never changes how long the buffer is
+-- neither a step nor a recipe changes how long the buffer is
 abbrev pub StepLength : Type 0
 StepLength = (buffer : List ℕ) (x : Bytes) → length (stepBuffer buffer x) ≡ length buffer
+
+abbrev pub RecipeLength : Type 0
+RecipeLength =
+    (buffer bytes : List ℕ) (call : Call) → length (recipeBuffer buffer bytes call) ≡ length buffer
 
 -- ---- no other numbers come back
 abbrev pub StepNumbers : Type 0
 StepNumbers = (buffer : List ℕ) (x : Bytes) → T (among (stepNumber buffer x) (0 ∷ stepNumbers))
+
+-- of a recipe's answer the two parts, whatever bytes the buffer has, and the numbers that come back; the place is 1 to
+-- 16 for the refusal of an instruction, 0 beside 0, 12 and 14 and nowhere else
+pub record AnswerParts (buffer bytes : List ℕ) (call : Call) (n : ℕ) : Type 0 where
+  pub refusal : n % 256 ≡ recipeOf (stateOf buffer) bytes call .refusal
+  pub place : n / 256 ≡ recipeOf (stateOf buffer) bytes call .place
+  pub known : T (among (n % 256) (0 ∷ recipeNumbers))
+  pub most : n / 256 ≤ 16
+  pub place-0 : (n / 256 ≡ 0) ↔ T (among (n % 256) (0 ∷ 12 ∷ 14 ∷ []))
+
+abbrev pub RecipeAnswerParts : Type 0
+RecipeAnswerParts =
+    (buffer bytes : List ℕ) (call : Call) → AnswerParts buffer bytes call (recipeAnswer buffer bytes call)
 
 abbrev pub FileNumbers : Type 0
 FileNumbers = (file buffer : List ℕ) → T (among (fileNumber file buffer) (31 ∷ 0 ∷ readNumbers))

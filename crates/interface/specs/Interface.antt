@@ -3,23 +3,29 @@
 -- quotation marks are those of include/panelrights.h.
 --     recordSize                     panelrights_state_bytes (records, Record)
 --     numberFor, foundingBuffer      panelrights_founding (the first: records, Record)
+--     answeredBy, changedBy          what panelrights_step and panelrights_recipe have in common
 --     stepNumber, stepBuffer         panelrights_step
+--     recipeAnswer, recipeBuffer     panelrights_recipe
 --     accessNumber                   panelrights_access
 --     fileNumber, fileBuffer         panelrights_read_file
 --     labelNumber                    panelrights_label
 --     lowest                         panelrights_lowest_mark (marks, Marks)
 --     runBuffer                      one call of panelrights_step after the other
+--     commandsBuffer                 one call of panelrights_step or panelrights_recipe after the other
 use Prim.Native.Nat.{ℕ, _+_, _*_}
 use mathlib.Core.Bool.{cond}
 use mathlib.Core.List.{List, [], _∷_}
 use lib.Dec.{eqb}
-use Rattle.state.specs.Site.{founding}
+use Rattle.state.specs.Site.{Site, founding}
 use Rattle.access.specs.Answer.{answerNumber}
 use Rattle.records.specs.Record.{bytesOf, isRecord, stateOf, isSized, stored}
 use Rattle.instructions.specs.Instructions.{Bytes}
 use Rattle.machine.specs.Step.{stepOf, replyOf}
 use Rattle.machine.specs.declared.Reply.{Reply}
 use Rattle.machine.specs.declared.Reply.the-variants.{Refused, Answered}
+use Rattle.recipes.specs.Run.{RecipeVerdict, recipeOf}
+use Rattle.recipes.specs.declared.Call.{Call}
+use Rattle.recipe_guarantees.specs.Commands.{Command, single, recipe}
 use Rattle.site_file.specs.Reading.{readOf}
 use Rattle.label_finder.specs.Finder.{textAt, textLength}
 
@@ -29,14 +35,38 @@ use Rattle.label_finder.specs.Finder.{textAt, textLength}
 abbrev pub foundingBuffer : (buffer : List ℕ) → List ℕ
 foundingBuffer buffer = stored buffer founding
 
--- ---- panelrights_step
+-- ---- what changes a record in place: a number by the state, 0 for what is accepted, and the state after it
 -- "A record of another length, or with a byte other than 0 and 1, is 12."
-unfoldable pub stepNumber : (buffer : List ℕ) → Bytes → ℕ
-stepNumber buffer x = cond (isRecord buffer) (stepOf (stateOf buffer) x .refusal) 12
+unfoldable pub answeredBy : (number : Site → ℕ) → (buffer : List ℕ) → ℕ
+answeredBy number buffer = cond (isRecord buffer) (number (stateOf buffer)) 12
 
--- "0, and the record is that of the state after it; or the refusal, and no byte is changed."
-unfoldable pub stepBuffer : (buffer : List ℕ) → Bytes → List ℕ
-stepBuffer buffer x = cond (eqb (stepNumber buffer x) 0) (bytesOf (stepOf (stateOf buffer) x .state)) buffer
+-- "0, and the record is that of the state after it; or the refusal, and no byte is changed." So it is said of a step; a
+-- recipe has its place beside the refusal.
+unfoldable pub changedBy : (number : Site → ℕ) (next : Site → Site) → (buffer : List ℕ) → List ℕ
+changedBy number next buffer = cond (eqb (answeredBy number buffer) 0) (bytesOf (next (stateOf buffer))) buffer
+
+-- ---- panelrights_step
+abbrev pub stepNumber : (buffer : List ℕ) → Bytes → ℕ
+stepNumber buffer x = answeredBy (λ s. stepOf s x .refusal) buffer
+
+abbrev pub stepBuffer : (buffer : List ℕ) → Bytes → List ℕ
+stepBuffer buffer x = changedBy (λ s. stepOf s x .refusal) (λ s. stepOf s x .state) buffer
+
+-- ---- panelrights_recipe
+-- what comes with the call: the activator, and p0 to p3
+abbrev pub callOf : (activator p0 p1 p2 p3 : ℕ) → Call
+callOf activator p0 p1 p2 p3 = record { activator = activator; parameters = p0 ∷ p1 ∷ p2 ∷ p3 ∷ [] }
+
+-- "place * 256 + number", so 0 is accepted
+abbrev pub placed : RecipeVerdict → ℕ
+placed v = v .place * 256 + v .refusal
+
+abbrev pub recipeAnswer : (buffer bytes : List ℕ) → Call → ℕ
+recipeAnswer buffer bytes call = answeredBy (λ s. placed (recipeOf s bytes call)) buffer
+
+abbrev pub recipeBuffer : (buffer bytes : List ℕ) → Call → List ℕ
+recipeBuffer buffer bytes call =
+    changedBy (λ s. placed (recipeOf s bytes call)) (λ s. recipeOf s bytes call .state) buffer
 
 -- ---- panelrights_access
 -- the number of steps, "255 for no access; 256 + n for refusal n"
@@ -67,3 +97,12 @@ labelNumber file a = textAt file a * 65536 + textLength file a
 unfoldable pub runBuffer : (buffer : List ℕ) → List Bytes → List ℕ
 runBuffer buffer [] = buffer
 runBuffer buffer (x ∷ rest) = runBuffer (stepBuffer buffer x) rest
+
+-- ---- and one that calls panelrights_recipe too
+abbrev pub commandBuffer : (buffer : List ℕ) → Command → List ℕ
+commandBuffer buffer (single x) = stepBuffer buffer x
+commandBuffer buffer (recipe bytes call) = recipeBuffer buffer bytes call
+
+unfoldable pub commandsBuffer : (buffer : List ℕ) → List Command → List ℕ
+commandsBuffer buffer [] = buffer
+commandsBuffer buffer (c ∷ rest) = commandsBuffer (commandBuffer buffer c) rest

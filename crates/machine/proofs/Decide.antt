@@ -3,10 +3,14 @@
 use Prim.Native.Nat.{ℕ}
 use mathlib.Core.Path.{_≡_, refl, sym, ap, _∙_}
 use mathlib.Core.Bool.{Bool, true, false, not, cond}
-use mathlib.Core.List.{_++_}
+use mathlib.Core.Logic.{inl, inr}
+use mathlib.Core.List.{[], _∷_, _++_}
+use native.Mathlib.Omega.{arith}
+use denote.Enum.Declared.{tagOf}
+use types.Run.{OneOf}
 use lib.Dec.{eqb}
 use borrow.Author.Tests.{eq-eqb, ne-eqb}
-use Rattle.state.specs.Site.{Site, Shaped, Verdict, verdict}
+use Rattle.state.specs.Site.{Site, Shaped, verdict}
 use Rattle.readings.specs.Readings.{seenOf}
 use Rattle.state.proofs.Bools.{fails}
 use Rattle.soundness.specs.Tests.{isSound}
@@ -20,8 +24,16 @@ use Rattle.machine.specs.Step.{decided, stepRefusal, stepOf}
 use Rattle.instructions.specs.declared.Instruction.{Instruction}
 use Rattle.instructions.specs.declared.Decoded.{Decoded}
 use Rattle.instructions.specs.declared.Decoded.the-variants.{Fits, NoCode, OutOfRange}
+use Rattle.instructions.proofs.Decoded.{the-type}
 use Rattle.state.proofs.Checks.{met, passed}
 use Rattle.refusals.proofs.Late.{checks-in-two}
+
+-- what fits no instruction, the second or third case, has a number other than 0
+pub misfit-number : (d : Decoded) → OneOf (1 ∷ 2 ∷ []) (tagOf the-type d) → eqb (decodedNumber d) 0 ≡ false
+misfit-number (Fits x) (inl e) = absurd (omega arith)
+misfit-number (Fits x) (inr e) = absurd (omega arith)
+misfit-number NoCode k = refl
+misfit-number OutOfRange k = refl
 
 module _ (s : Site) (bytes : Bytes) where
   -- the number of what was decoded: 1 or 2, or that of the instruction's checks

@@ -1,14 +1,14 @@
 -- The claims of specs/Claims.antt and the laws of specs/Laws.antt, each proved under its name.
 -- Assumes nothing.
 use Prim.Native.Nat.{ℕ}
-use mathlib.Core.Path.{refl, ap}
+use mathlib.Core.Path.{refl, sym, ap, _∙_}
 use mathlib.Core.Bool.{Bool, true, false, not, cond}
 use mathlib.Core.List.{_∷_, _++_}
 use lib.Dec.{T, eqb, ltb, ltb→lt}
 use borrow.Author.Tests.{eq-eqb, ne-eqb}
 use Rattle.state.specs.Site.{Site}
 use Rattle.state.proofs.Bools.{not-so, holds}
-use Rattle.state.proofs.Checks.{eachOf, first-meets, among-meets, none-met-at, met}
+use Rattle.state.proofs.Checks.{eachOf, first-meets, among-meets, none-met-at, met, passed}
 use Rattle.state.specs.Checks.{_when_, firstMet, among, eachNumber, numbered}
 use Rattle.access.specs.Lending.{lending}
 use Rattle.access.specs.Answer.{answer}
@@ -20,7 +20,7 @@ use Rattle.instructions.specs.Instructions.{Bytes}
 use Rattle.instructions.specs.Decode.{decodeOf, misfits}
 use Rattle.instructions.specs.declared.Decoded.{Decoded}
 use Rattle.instructions.specs.declared.Decoded.the-variants.{Fits, NoCode, OutOfRange}
-use Rattle.refusals.specs.Refusals.{checksOf, refusals, stepNumbers}
+use Rattle.refusals.specs.Refusals.{checksOf, furtherRefusals, refusals, stepNumbers}
 use Rattle.machine.specs.Step.{stepRefusal, stepOf, run, refusedOr, replyOf, questionRefusals, AnswerMeans}
 use Rattle.machine.specs.declared.Reply.the-variants.{Refused, Answered}
 use Rattle.machine.specs.Claims
@@ -66,6 +66,22 @@ number-by-first s bytes = refl
 pub accepted-gives : Laws.AcceptedGives
 unfolding stepOf
 accepted-gives s bytes e = ap (λ (b : Bool). cond b (successorOf s bytes (decodeOf bytes)) s) (eq-eqb (stepRefusal s bytes) 0 e)
+
+-- 12 is not one of the further numbers
+not-twelve : ℕ → Bool
+not-twelve n = not (eqb n 12)
+
+each-other : (s : Site) (bytes : Bytes) (d : Decoded) → T (eachNumber not-twelve (misfits d ++ checksOf s bytes d))
+unfolding not-twelve
+each-other s bytes (Fits x) = tt
+each-other s bytes NoCode = tt
+each-other s bytes OutOfRange = tt
+
+pub sound-never-twelve : Laws.SoundNeverTwelve
+unfolding not-twelve
+sound-never-twelve s bytes e q =
+    not-so (eqb (firstMet (furtherRefusals s bytes)) 12) (first-meets not-twelve (furtherRefusals s bytes) tt (each-other s bytes (decodeOf bytes)))
+    (holds (eq-eqb _ 12 (sym (number-by-first s bytes ∙ passed (12 when not (isSound s)) _ (ap not e)) ∙ q)))
 
 pub unsound-refused : Laws.UnsoundRefused
 unfolding stepOf stepRefusal

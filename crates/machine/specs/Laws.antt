@@ -1,7 +1,7 @@
 -- What the layers above use. Each law is a type, which proofs/Laws.antt inhabits under the law's name.
 use Prim.Native.Nat.{ℕ, _<_}
 use mathlib.Core.Path.{_≡_}
-use mathlib.Core.Bool.{false}
+use mathlib.Core.Bool.{true, false}
 use mathlib.Core.List.{List, [], _∷_}
 use Rattle.state.specs.Site.{Site}
 use Rattle.state.specs.Checks.{firstMet}
@@ -24,6 +24,10 @@ abbrev pub AcceptedGives : Type 0
 AcceptedGives =
     (s : Site) (bytes : Bytes) → stepOf s bytes .refusal ≡ 0
     → stepOf s bytes .state ≡ successorOf s bytes (decodeOf bytes)
+
+-- in a sound state the number is never 12
+abbrev pub SoundNeverTwelve : Type 0
+SoundNeverTwelve = (s : Site) (bytes : Bytes) → isSound s ≡ true → stepOf s bytes .refusal ≡ 12 → ⊥
 
 -- a number has at most two digits
 abbrev pub TwoDigits : Type 0

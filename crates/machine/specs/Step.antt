@@ -1,5 +1,6 @@
 -- The step, the list of steps, and the access question.
 use Prim.Native.Nat.{ℕ}
+use mathlib.Core.Path.{_≡_}
 use mathlib.Core.Bool.{not, _&&_, cond}
 use mathlib.Core.List.{List, [], _∷_}
 use lib.Dec.{eqb, ltb}
@@ -34,6 +35,12 @@ stepOf s bytes = decided s (successorOf s bytes (decodeOf bytes)) (stepRefusal s
 unfoldable pub run : Site → List Bytes → Site
 run s [] = s
 run s (bytes ∷ rest) = run (stepOf s bytes .state) rest
+
+-- each instruction of a list is accepted, in the state that those before it give
+pub data EachAccepted : Site → List Bytes → Type 0 where
+  accepted-none : {s : Site} → EachAccepted s []
+  accepted-next : {s : Site} {x : Bytes} {rest : List Bytes} → stepOf s x .refusal ≡ 0
+      → EachAccepted (stepOf s x .state) rest → EachAccepted s (x ∷ rest)
 
 -- ---- the access question
 -- "Refusals 12, 2, 4 apply in that order, with the same conditions for a and b."

@@ -165,12 +165,19 @@ checksOf s bytes (Fits x) = instructionChecks s x (bytes .activator) (bytes .a) 
 checksOf s bytes NoCode = []
 checksOf s bytes OutOfRange = []
 
+-- all but 12, from 1 on: what is asked where the state is known to be sound
+abbrev pub furtherRefusals : Site → Bytes → List Check
+furtherRefusals s bytes = misfits (decodeOf bytes) ++ checksOf s bytes (decodeOf bytes)
+
 -- 12 is "the state is unsound, or is not the record its relations have": a sound record is that of its relations
 -- (soundness, claim RecordOfRelations).
 abbrev pub refusals : Site → Bytes → List Check
-refusals s bytes = (12 when not (isSound s)) ∷ (misfits (decodeOf bytes) ++ checksOf s bytes (decodeOf bytes))
+refusals s bytes = (12 when not (isSound s)) ∷ furtherRefusals s bytes
 
 -- "Order of checks: 12 first, then 1 to 11 upwards.", and 15 "after 7 and before 8". No other number is given (machine,
 -- claim RefusalNumbers).
+abbrev pub furtherNumbers : List ℕ
+furtherNumbers = 1 ∷ 2 ∷ 3 ∷ 4 ∷ 5 ∷ 6 ∷ 7 ∷ 15 ∷ 8 ∷ 9 ∷ 10 ∷ 11 ∷ []
+
 abbrev pub stepNumbers : List ℕ
-stepNumbers = 12 ∷ 1 ∷ 2 ∷ 3 ∷ 4 ∷ 5 ∷ 6 ∷ 7 ∷ 15 ∷ 8 ∷ 9 ∷ 10 ∷ 11 ∷ []
+stepNumbers = 12 ∷ furtherNumbers

@@ -6,7 +6,9 @@
 --     count-none, count-more              before the first turn, and one turn more
 --     count-one, one-counted              a count of one is exactly one number
 --     some-none, some-more                no number, and one number more
+--     some-goes                           one number more that does not meet the test
 --     some-at, some-by                    some number meets the test
+--     some-stop, some-done                a number that does, and none left
 --     first-is, first-none, first-met     the number that meets it while none before does, none at all, and that it does meet it
 -- Assumes nothing.
 use Prim.Native.Nat.{ℕ, zero, suc, _+_, _≤_, _<_}
@@ -18,7 +20,7 @@ use native.Mathlib.Numerals.{add-one}
 use native.Mathlib.Omega.{arith}
 use native.Mathlib.Decide.{ℕ-discrete}
 use lib.Dec.{T}
-use Rattle.state.proofs.Bools.{or-left, or-right, or-cases, and-both, and-left, and-right, is-true, is-false, fails, test}
+use Rattle.state.proofs.Bools.{or-left, or-right, or-cases, and-both, and-left, and-right, is-true, is-false, holds, fails, test}
 use Rattle.state.specs.Below.{eachBelow, countBelow, someBelow, firstFrom, firstBelow}
 
 module _ (f : ℕ → Bool) where
@@ -164,6 +166,16 @@ module _ (f : ℕ → Bool) where
       go : (k < n → T (f k) → T (someBelow n f)) → Dec (k ≡ n) → T (someBelow n f || f n)
       go before (yes e) = or-right (someBelow n f) (f n) (rw e at t)
       go before (no ne) = or-left (someBelow n f) (f n) (before (omega arith) t)
+
+  -- no number so far: one more, the first that does, and the end
+  pub some-goes : (n : ℕ) → someBelow n f ≡ false → f n ≡ false → someBelow (n + 1) f ≡ false
+  some-goes n e h = rw (add-one n, some-more n, e) h
+
+  pub some-stop : (n k : ℕ) → k < n → f k ≡ true → true ≡ someBelow n f
+  some-stop n k h e = sym (is-true (someBelow n f) (some-by n k h (holds e)))
+
+  pub some-done : (n k : ℕ) → k ≤ n → n ≤ k → someBelow k f ≡ false → false ≡ someBelow n f
+  some-done n k below above e = let same : k ≡ n = omega arith in sym (subst (λ (m : ℕ). someBelow m f ≡ false) same e)
 
   pub some-at : (n : ℕ) → T (someBelow n f) → Some n
   unfolding someBelow

@@ -2,7 +2,7 @@
 -- Assumes nothing.
 use Prim.Native.Nat.{ℕ, zero, suc, _+_, _<_}
 use mathlib.Core.Path.{_≡_, refl, sym, ap, _∙_}
-use mathlib.Core.List.{List}
+use mathlib.Core.List.{List, _∷_}
 use native.Mathlib.Nat.{not-suc-le-zero, le-of-suc-le-suc, add-zero, zero-add, add-suc, suc-add}
 use lib.ListN.{length, getD}
 use lib.Seq.{ext-getD}
@@ -32,6 +32,14 @@ module _ {A : Type 0} (f : ℕ → A) where
   tabulate-is n d l long each =
       ext-getD d l (tabulate n f) (long ∙ sym (length-tabulate n))
       (λ k h. let h′ : k < n = rw long at h in each k h′ ∙ sym (getD-tabulate n k d h′))
+
+-- the first cell, and the others
+pub tabulate-more : {A : Type 0} (f : ℕ → A) (n : ℕ) → tabulate (suc n) f ≡ f 0 ∷ tabulate n (λ k. f (suc k))
+tabulate-more {A} f n = sym (tabulate-is f (suc n) (f 0) (f 0 ∷ tabulate n (λ k. f (suc k))) (ap suc (length-tabulate (λ k. f (suc k)) n)) each)
+  where
+    each : (k : ℕ) → k < suc n → getD (f 0 ∷ tabulate n (λ k. f (suc k))) k (f 0) ≡ f k
+    each zero h = refl
+    each (suc k) h = getD-tabulate (λ k. f (suc k)) n k (f 0) (le-of-suc-le-suc h)
 
 pub same-table : {A : Type 0} (f g : ℕ → A) (d : A) (n : ℕ) → ((k : ℕ) → k < n → f k ≡ g k) → tabulate n f ≡ tabulate n g
 same-table f g d n each = tabulate-is g n d (tabulate n f) (length-tabulate f n) (λ k h. getD-tabulate f n k d h ∙ each k h)

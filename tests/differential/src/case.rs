@@ -2,7 +2,8 @@
 
 use crate::answer::Answer;
 use crate::site::Site;
-use crate::{expected, lending, library, program, taking_back};
+use crate::{commands, expected, lending, library, program, taking_back};
+use reference::{Call, Command};
 use std::borrow::Cow;
 
 #[derive(Clone, Debug, PartialEq, Eq)]
@@ -20,6 +21,12 @@ pub enum Case<'a> {
         site: Cow<'a, Site>,
         add: [u8; 4],
     },
+    /// A recipe, and what comes with the call.
+    Recipe {
+        site: Cow<'a, Site>,
+        bytes: Cow<'a, [u8]>,
+        call: Call,
+    },
     Access {
         site: Cow<'a, Site>,
         area: u32,
@@ -29,6 +36,11 @@ pub enum Case<'a> {
     List {
         site: Cow<'a, Site>,
         list: Cow<'a, [[u8; 4]]>,
+    },
+    /// The same of a list that has recipes beside instructions.
+    Commands {
+        site: Cow<'a, Site>,
+        list: Cow<'a, [Command]>,
     },
     /// A site file, read into a buffer of so many bytes.
     Read {
@@ -63,6 +75,14 @@ impl<'a> Case<'a> {
         }
     }
 
+    pub fn recipe(site: &'a Site, bytes: &'a [u8], call: Call) -> Case<'a> {
+        Case::Recipe {
+            site: Cow::Borrowed(site),
+            bytes: Cow::Borrowed(bytes),
+            call,
+        }
+    }
+
     pub fn access(site: &'a Site, area: u32, object: u32) -> Case<'a> {
         Case::Access {
             site: Cow::Borrowed(site),
@@ -73,6 +93,13 @@ impl<'a> Case<'a> {
 
     pub fn list(site: &'a Site, list: &'a [[u8; 4]]) -> Case<'a> {
         Case::List {
+            site: Cow::Borrowed(site),
+            list: Cow::Borrowed(list),
+        }
+    }
+
+    pub fn commands(site: &'a Site, list: &'a [Command]) -> Case<'a> {
+        Case::Commands {
             site: Cow::Borrowed(site),
             list: Cow::Borrowed(list),
         }
@@ -104,8 +131,10 @@ impl<'a> Case<'a> {
             Case::Founding { .. } => "founding",
             Case::Step { .. } => "step",
             Case::Back { .. } => "back",
+            Case::Recipe { .. } => "recipe",
             Case::Access { .. } => "access",
             Case::List { .. } => "list",
+            Case::Commands { .. } => "commands",
             Case::Read { .. } => "read",
             Case::Label { .. } => "label",
             Case::Mark { .. } => "mark",
@@ -118,8 +147,10 @@ impl<'a> Case<'a> {
             Case::Founding { buffer_len } => library::founding(*buffer_len),
             Case::Step { site, instruction } => library::step(&site.record, *instruction),
             Case::Back { site, add } => taking_back::by_library(site, *add),
+            Case::Recipe { site, bytes, call } => library::recipe(&site.record, bytes, call),
             Case::Access { site, area, object } => library::access(&site.record, *area, *object),
             Case::List { site, list } => lending::run_by_library(site, list),
+            Case::Commands { site, list } => commands::run_by_library(site, list),
             Case::Read { file, buffer_len } => library::read_file(file, *buffer_len),
             Case::Label { file, area } => library::label(file, *area),
             Case::Mark { marks } => Answer::new(library::lowest_mark(*marks), vec![]),
@@ -132,8 +163,10 @@ impl<'a> Case<'a> {
             Case::Founding { buffer_len } => expected::founding(*buffer_len),
             Case::Step { site, instruction } => expected::step(site, *instruction),
             Case::Back { site, add } => expected::back(site, *add),
+            Case::Recipe { site, bytes, call } => expected::recipe(site, bytes, call),
             Case::Access { site, area, object } => expected::access(site, *area, *object),
             Case::List { site, list } => expected::run(site, list),
+            Case::Commands { site, list } => expected::run_commands(site, list),
             Case::Read { file, buffer_len } => expected::read_file(file, *buffer_len),
             Case::Label { file, area } => expected::label(file, *area),
             Case::Mark { marks } => Answer::new(reference::lowest_mark(*marks), vec![]),

@@ -36,6 +36,7 @@ pub fn answer_text(case: &Case, answer: &Answer) -> String {
     let number = answer.number;
     let mut text = match case {
         Case::Label { .. } => format!("offset {}, length {}", number >> 16, number & 0xffff),
+        Case::Recipe { .. } => format!("{} at place {}", number & 0xff, number >> 8),
         _ => number.to_string(),
     };
     if !answer.complaint.is_empty() {

@@ -14,7 +14,7 @@ use std::collections::BTreeSet;
 use std::sync::Mutex;
 
 /// Two users, two areas, one object; four owner pairs, two definitions, four structure pairs, two imports, two exports.
-const PLACES: u32 = 19;
+pub const PLACES: u32 = 19;
 
 const AREA_PAIRS: [(u8, u8); 4] = [(0, 0), (0, 1), (1, 0), (1, 1)];
 const OBJECT_PAIRS: [(u8, u8); 2] = [(0, 0), (0, 1)];
@@ -82,7 +82,7 @@ fn sound_by_library(plan: &Plan) -> (BTreeSet<State>, Seen) {
 }
 
 /// The state with what the marked places stand for, the lowest bit first.
-fn state_of(mut places: u32) -> State {
+pub fn state_of(mut places: u32) -> State {
     State {
         users: take(&mut places, &[0, 1]),
         areas: take(&mut places, &[0, 1]),
@@ -129,7 +129,7 @@ fn every_instruction(site: &Site, seen: &mut Seen) {
 }
 
 /// The state with an import by the area that defines the object, if one does.
-fn with_own_import(site: &Site) -> Option<Site> {
+pub fn with_own_import(site: &Site) -> Option<Site> {
     let mut state = site.state.clone()?;
     state.imports.insert(*state.definitions.first()?);
     Some(Site::of_state(state))

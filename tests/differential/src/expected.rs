@@ -3,7 +3,7 @@
 use crate::answer::Answer;
 use crate::library::UNWRITTEN;
 use crate::site::Site;
-use reference::{State, RECORD_BYTES};
+use reference::{Call, Command, State, RECORD_BYTES};
 
 /// "the state buffer has another length than panelrights_state_bytes()"
 const STATE_LENGTH: u32 = 31;
@@ -45,6 +45,21 @@ pub fn remove(add: [u8; 4], added: &Answer) -> Option<Answer> {
     Some(step(&Site::of_bytes(added.bytes.clone()), matching))
 }
 
+/// The place times 256 and the number; beside a refusal no byte is changed.
+pub fn recipe(site: &Site, bytes: &[u8], call: &Call) -> Answer {
+    let (answer, after) = match &site.state {
+        Some(state) => {
+            let (answer, after) = reference::recipe(state, bytes, call);
+            (answer, reference::to_record(&after))
+        }
+        None => reference::recipe_record(&site.record, bytes, call),
+    };
+    match (answer.number, answer.place) {
+        (0, 0) => Answer::new(0_u32, after),
+        (number, place) => Answer::new(u32::from(place) * 256 + u32::from(number), site.record.clone()),
+    }
+}
+
 pub fn access(site: &Site, area: u32, object: u32) -> Answer {
     let steps = match &site.state {
         Some(state) => reference::access(state, area, object),
@@ -79,6 +94,14 @@ pub fn label(file: &[u8], area: u32) -> Answer {
 pub fn run(site: &Site, list: &[[u8; 4]]) -> Answer {
     let record = match &site.state {
         Some(state) => reference::to_record(&reference::run(state, list)),
+        None => site.record.clone(),
+    };
+    Answer::new(0_u32, record)
+}
+
+pub fn run_commands(site: &Site, list: &[Command]) -> Answer {
+    let record = match &site.state {
+        Some(state) => reference::to_record(&reference::run_commands(state, list)),
         None => site.record.clone(),
     };
     Answer::new(0_u32, record)

@@ -109,7 +109,7 @@ fn entries(state: &State) -> impl Iterator<Item = &(u8, u8)> {
 
 /// A sound state, and the area whose owners are to be silent: mostly one with imports or exports, often one at 7 to 9
 /// steps, and mostly with a user who does not own it.
-fn start(shape: Shape, chance: &mut Chance) -> (State, u8) {
+pub fn start(shape: Shape, chance: &mut Chance) -> (State, u8) {
     loop {
         let state = sound_state(shape, chance);
         let all = members(&state.areas);
@@ -163,7 +163,7 @@ fn list_without(start: &State, silent: u8, chance: &mut Chance, seen: &mut Seen)
 }
 
 /// Any four bytes, or an instruction of another user, or one that fits the silent owners in another's name.
-fn bytes_without(state: &State, silent: &[u8], others: &[u8], chance: &mut Chance) -> [u8; 4] {
+pub fn bytes_without(state: &State, silent: &[u8], others: &[u8], chance: &mut Chance) -> [u8; 4] {
     let mut bytes = match chance.below(10) {
         0 => any_bytes(chance),
         1..4 => instruction(state, &Domain::whole(silent), chance),
@@ -216,7 +216,7 @@ fn wrong_with_one(before: &[u8], instruction: [u8; 4], now: &Answer) -> Vec<Stri
 }
 
 /// What demand 3 says and is not so, of a sound state at the start.
-fn broken_promises(start: &State, list: &[[u8; 4]], end: &State) -> Vec<String> {
+pub fn broken_promises(start: &State, list: &[[u8; 4]], end: &State) -> Vec<String> {
     let lost = |&area: &u8| reference::lending_guarantee(start, list, end, area).err();
     let mut broken: Vec<String> = start.areas.iter().filter_map(lost).collect();
     if !end.is_sound() {

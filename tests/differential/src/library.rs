@@ -2,6 +2,7 @@
 
 use crate::answer::Answer;
 use panelrights::sys;
+use reference::Call;
 
 /// An odd number, so that the buffer stands at an odd address.
 const GUARD_BYTES: usize = 37;
@@ -73,6 +74,19 @@ pub fn step(record: &[u8], [code, activator, a, b]: [u8; 4]) -> Answer {
     buffer.answer(number)
 }
 
+pub fn recipe(record: &[u8], bytes: &[u8], call: &Call) -> Answer {
+    let mut buffer = Guarded::new(record);
+    let mut lent = Guarded::new(bytes);
+    let (state, recipe) = (buffer.pointer(), lent.pointer());
+    let (activator, [p0, p1, p2, p3]) = (call.activator, call.parameters);
+    // SAFETY: so many bytes may be read and written in the one, and read in the other; they are two.
+    let number =
+        unsafe { sys::panelrights_recipe(state, record.len(), recipe, bytes.len(), activator, p0, p1, p2, p3) };
+    let mut answer = buffer.answer(number);
+    complain_of_change(&mut answer, &lent, bytes);
+    answer
+}
+
 /// No code, so that a sound state answers 1, and any other 12.
 pub const NO_INSTRUCTION: [u8; 4] = [0; 4];
 
@@ -124,6 +138,6 @@ pub fn lowest_mark(marks: u8) -> u8 {
 /// A buffer that is only to be read must hold what it held.
 fn complain_of_change(answer: &mut Answer, lent: &Guarded, before: &[u8]) {
     if lent.content() != before || !lent.guards_stand() {
-        answer.complaint = "the file, or a byte beside it, was changed".to_string();
+        answer.complaint = "a byte that is only to be read, or one beside it, was changed".to_string();
     }
 }

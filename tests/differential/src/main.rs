@@ -13,6 +13,8 @@ mod borders;
 mod byte_damage;
 mod case;
 mod chains;
+mod commands;
+mod courses;
 mod difference;
 mod draft;
 mod exhaustive;
@@ -23,18 +25,23 @@ mod lending;
 #[allow(unsafe_code)]
 mod library;
 mod lines;
+mod misformed;
 mod numbers;
 mod own_imports;
 mod program;
 mod random;
+mod recipes;
 mod seen;
 mod shards;
 mod site;
+mod small_recipes;
 mod states;
 mod table_damage;
 mod taking_back;
+mod templates;
 mod text;
 mod unsound;
+mod wanted;
 
 use difference::{answer_text, content_text};
 use seen::Seen;
@@ -47,13 +54,15 @@ const USUAL_SEED: u64 = 20_260_101;
 
 type Part = fn(&Plan) -> (String, Seen);
 
-const PARTS: [(&str, Part); 6] = [
+const PARTS: [(&str, Part); 8] = [
     ("basics", basics::run),
     ("exhaustive", exhaustive::run),
     ("random", random::run),
+    ("recipes", recipes::run),
     ("files", files::run),
     ("program", program::run),
     ("lending", lending::run),
+    ("commands", commands::run),
 ];
 
 fn main() -> ExitCode {

@@ -9,6 +9,9 @@ pub type Pairs = BTreeSet<(u8, u8)>;
 /// What a sound state answers to an instruction: 0, and the refusals in the order of their checks.
 pub const STEP_ANSWERS: [u32; 13] = [0, 1, 2, 3, 4, 5, 6, 7, 15, 8, 9, 10, 11];
 
+/// What a recipe is answered with: 0, and the refusals in the order of their checks.
+pub const RECIPE_ANSWERS: [u32; 15] = [0, 12, 14, 1, 2, 3, 4, 5, 6, 7, 15, 8, 9, 10, 11];
+
 /// The five relations, in the order of the record and of the site file.
 pub fn relations(state: &State) -> [&Pairs; 5] {
     [

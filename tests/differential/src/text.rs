@@ -1,14 +1,16 @@
 //! A case as one line of text, and back: what `replay` takes.
 //!
 //! A list of numbers is `0-3,7`; a relation is `FIRST:SECONDS` for each first number, with `;` between; other bytes are
-//! hexadecimal, in pieces with `,` between, and `00*31` is a byte that comes 31 times. What is empty is `-`. The input
-//! of the program is all that stands behind its word and one space, with `\n` for byte 10 and `\xff` for a byte that is
-//! not printed.
+//! hexadecimal, in pieces with `,` between, and `00*31` is a byte that comes 31 times. A recipe is its activator and
+//! parameters, `:`, and its bytes as numbers, five and five with `;` between: `0.9.0.0.0:7.0.0.0.9;11.0.0.1.0`, and
+//! `1.0.0.0.0*17` is an instruction that comes 17 times. What is empty is `-`. The input of the program is all that
+//! stands behind its word and one space, with `\n` for byte 10 and `\xff` for a byte that is not printed.
 
 use crate::case::Case;
 use crate::numbers::relations;
 use crate::site::Site;
-use reference::State;
+use crate::templates::FIVE;
+use reference::{Call, Command, State};
 use std::borrow::Cow;
 use std::collections::{BTreeMap, BTreeSet};
 use std::fmt::{self, Display, Formatter};
@@ -27,9 +29,14 @@ impl Display for Case<'_> {
             Case::Step { site, instruction } | Case::Back { site, add: instruction } => {
                 write!(to, "{} {}", numbers_text(instruction, " "), site_text(site))
             }
+            Case::Recipe { site, bytes, call } => write!(to, "{} {}", recipe_text(bytes, call), site_text(site)),
             Case::Access { site, area, object } => write!(to, "{area} {object} {}", site_text(site)),
             Case::List { site, list } => {
                 let items: Vec<String> = list.iter().map(|instruction| numbers_text(instruction, ".")).collect();
+                write!(to, "{} {}", or_dash(items.join(",")), site_text(site))
+            }
+            Case::Commands { site, list } => {
+                let items: Vec<String> = list.iter().map(command_text).collect();
                 write!(to, "{} {}", or_dash(items.join(",")), site_text(site))
             }
             Case::Read { file, buffer_len } => write!(to, "{buffer_len} {}", bytes_text(file)),
@@ -49,6 +56,24 @@ fn or_dash(text: String) -> String {
 
 fn numbers_text(numbers: &[u8], between: &str) -> String {
     numbers.iter().map(u8::to_string).collect::<Vec<_>>().join(between)
+}
+
+fn command_text(command: &Command) -> String {
+    match command {
+        Command::Single(instruction) => numbers_text(instruction, "."),
+        Command::Recipe { bytes, call } => recipe_text(bytes, call),
+    }
+}
+
+fn recipe_text(bytes: &[u8], call: &Call) -> String {
+    let fives: Vec<&[u8]> = bytes.chunks(FIVE).collect();
+    let run_text = |run: &[&[u8]]| match run {
+        [one] => numbers_text(one, "."),
+        _ => format!("{}*{}", numbers_text(run[0], "."), run.len()),
+    };
+    let runs: Vec<String> = fives.chunk_by(|one, next| one == next).map(run_text).collect();
+    let parameters = numbers_text(&call.parameters, ".");
+    format!("{}.{parameters}:{}", call.activator, or_dash(runs.join(";")))
 }
 
 fn site_text(site: &Site) -> String {
@@ -160,6 +185,14 @@ fn parse_over_site(words: &[&str]) -> Result<Case<'static>, String> {
             site: Cow::Owned(parse_site(site)?),
             add: parse_instruction([code, activator, a, b])?,
         },
+        ["recipe", recipe, ref site @ ..] => {
+            let (bytes, call) = parse_recipe(recipe)?;
+            Case::Recipe {
+                site: Cow::Owned(parse_site(site)?),
+                bytes: Cow::Owned(bytes),
+                call,
+            }
+        }
         ["access", area, object, ref site @ ..] => Case::Access {
             site: Cow::Owned(parse_site(site)?),
             area: number(area)?,
@@ -167,7 +200,11 @@ fn parse_over_site(words: &[&str]) -> Result<Case<'static>, String> {
         },
         ["list", list, ref site @ ..] => Case::List {
             site: Cow::Owned(parse_site(site)?),
-            list: Cow::Owned(parse_instructions(list)?),
+            list: Cow::Owned(items(list, ",").map(parse_four).collect::<Result<_, String>>()?),
+        },
+        ["commands", list, ref site @ ..] => Case::Commands {
+            site: Cow::Owned(parse_site(site)?),
+            list: Cow::Owned(items(list, ",").map(parse_command).collect::<Result<_, String>>()?),
         },
         _ => return Err(format!("no case begins and goes on like this: {:?}", words.first())),
     };
@@ -188,12 +225,35 @@ fn parse_instruction([code, activator, a, b]: [&str; 4]) -> Result<[u8; 4], Stri
     Ok([number(code)?, number(activator)?, number(a)?, number(b)?])
 }
 
-fn parse_instructions(text: &str) -> Result<Vec<[u8; 4]>, String> {
-    let instruction = |item: &str| {
-        let numbers: Vec<u8> = item.split('.').map(number).collect::<Result<_, String>>()?;
-        numbers.try_into().map_err(|_| format!("{item:?} has not four numbers"))
-    };
-    items(text, ",").map(instruction).collect()
+/// Numbers with a point between them.
+fn parse_numbers(text: &str) -> Result<Vec<u8>, String> {
+    text.split('.').map(number).collect()
+}
+
+fn parse_four(text: &str) -> Result<[u8; 4], String> {
+    let numbers = parse_numbers(text)?;
+    numbers.try_into().map_err(|_| format!("{text:?} has not four numbers"))
+}
+
+fn parse_command(text: &str) -> Result<Command, String> {
+    if !text.contains(':') {
+        return parse_four(text).map(Command::Single);
+    }
+    let (bytes, call) = parse_recipe(text)?;
+    Ok(Command::Recipe { bytes, call })
+}
+
+fn parse_recipe(text: &str) -> Result<(Vec<u8>, Call), String> {
+    let (call, runs) = text.split_once(':').ok_or(format!("{text:?} has no ':'"))?;
+    let [activator, parameters @ ..]: [u8; 5] = parse_numbers(call)?
+        .try_into()
+        .map_err(|_| format!("{call:?} has not five numbers"))?;
+    let mut bytes = Vec::new();
+    for run in items(runs, ";") {
+        let (one, times) = run.split_once('*').unwrap_or((run, "1"));
+        bytes.extend(parse_numbers(one)?.repeat(number(times)?));
+    }
+    Ok((bytes, Call { activator, parameters }))
 }
 
 fn parse_site(words: &[&str]) -> Result<Site, String> {

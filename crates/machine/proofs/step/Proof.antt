@@ -1,14 +1,8 @@
 -- `machine::step` meets its contract.
 -- Assumes nothing.
-use mathlib.Core.Path.{_≡_, refl, sym, ap, _∙_}
-use mathlib.Core.Logic.{inl, inr}
-use mathlib.Core.Bool.{Bool, true, false, not}
-use mathlib.Core.List.{[], _∷_}
-use native.Mathlib.Omega.{arith}
+use mathlib.Core.Path.{_≡_, sym, ap, _∙_}
+use mathlib.Core.Bool.{true, false, not}
 use borrow.Author.Needs.{needs}
-use denote.Enum.Declared.{tagOf}
-use types.Run.{OneOf}
-use lib.Dec.{eqb}
 use Rattle.state.specs.Site.{Shaped, verdict}
 use Rattle.state.specs.Stands.{site}
 use Rattle.state.proofs.Typed.{shaped-by-type}
@@ -19,20 +13,11 @@ use Rattle.instructions.specs.Instructions.{Bytes, fourBytes, rule}
 use Rattle.instructions.specs.declared.Rule.{Rule}
 use Rattle.refusals.specs.Refusals.{earlyChecks}
 use Rattle.refusals.specs.Parts.{resultChecks}
-use Rattle.instructions.specs.Decode.{decodeOf, decodedNumber}
-use Rattle.instructions.specs.declared.Decoded.{Decoded}
-use Rattle.instructions.specs.declared.Decoded.the-variants.{Fits, NoCode, OutOfRange}
-use Rattle.instructions.proofs.Decoded.{the-type}
-use Rattle.machine.proofs.Decide.{step-unsound, step-misfit, step-early, step-late, step-accepted}
+use Rattle.instructions.specs.Decode.{decodeOf}
+use Rattle.instructions.specs.declared.Decoded.the-variants.{Fits}
+use Rattle.machine.proofs.Decide.{misfit-number, step-unsound, step-misfit, step-early, step-late, step-accepted}
 use Rattle.machine.proofs.step.Statement.{statement}
 use Rattle.machine.proofs.step.Tie as tie
-
--- what fits no instruction has a number other than 0
-misfit-number : (d : Decoded) → OneOf (1 ∷ 2 ∷ []) (tagOf the-type d) → eqb (decodedNumber d) 0 ≡ false
-misfit-number (Fits x) (inl e) = absurd (omega arith)
-misfit-number (Fits x) (inr e) = absurd (omega arith)
-misfit-number NoCode k = refl
-misfit-number OutOfRange k = refl
 
 shaped : (c : tie.Start) → Shaped (site (c .args .s))
 shaped c = shaped-by-type (c .args .s) _ (c .good .0 .1 .1)

@@ -1,0 +1,2 @@
+-- Changing is this crate's own: a record that is changed in place.
+mod Changing
