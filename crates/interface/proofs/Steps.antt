@@ -37,7 +37,7 @@ use Rattle.recipes.specs.Run.{recipeOf}
 use Rattle.recipes.specs.declared.Call.{Call}
 use Rattle.recipe_guarantees.specs.Commands.{Command, single, recipe}
 use Rattle.recipes.proofs.Laws.{unsound-recipe}
-use Rattle.recipe_guarantees.proofs.Laws.{accepted-place, recipe-unchanged, recipe-sound}
+use Rattle.recipe_guarantees.proofs.Laws.{all-or-nothing, accepted-place, recipe-sound}
 use Rattle.interface.specs.Interface.{answeredBy, changedBy, placed, answerOf, accessNumber}
 
 -- what a step and a recipe have in common
@@ -62,7 +62,7 @@ pub recipes : (bytes : List ℕ) (call : Call) → Obeys (λ s. placed (recipeOf
 recipes bytes call =
     record {
       unsound-12 = λ s e. ap placed (unsound-recipe s bytes call e);
-      unchanged = λ s f. recipe-unchanged s bytes call (λ e. f (accepted-answer s bytes call e));
+      unchanged = λ s f. all-or-nothing s bytes call .not-at-all (λ e. f (accepted-answer s bytes call e));
       sound = λ s h. recipe-sound s bytes call h;
     }
 

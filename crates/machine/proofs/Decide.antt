@@ -1,4 +1,7 @@
 -- The step in the order of its checks: a record that is not sound, bytes that fit no instruction, the checks of the instruction.
+--     step-unsound, unfit-step                 the first two, as a function finds them
+--     Fitted, fitted                           what a function has found once the bytes fit, and the early checks are made
+--     early-step, late-step, accepted-step     what it gives: an early check is met, a late one, or none
 -- Assumes nothing.
 use Prim.Native.Nat.{ℕ}
 use mathlib.Core.Path.{_≡_, refl, sym, ap, _∙_}
@@ -12,7 +15,9 @@ use lib.Dec.{eqb}
 use borrow.Author.Tests.{eq-eqb, ne-eqb}
 use Rattle.state.specs.Site.{Site, Shaped, verdict}
 use Rattle.readings.specs.Readings.{seenOf}
-use Rattle.state.proofs.Bools.{fails}
+use Rattle.readings.specs.declared.Seen.{Seen}
+use Rattle.instructions.specs.declared.Rule.{Rule}
+use Rattle.state.proofs.Bools.{fails, holds}
 use Rattle.soundness.specs.Tests.{isSound}
 use Rattle.instructions.specs.Instructions.{Bytes, rule}
 use Rattle.instructions.specs.Decode.{decodeOf, decodedNumber, misfits}
@@ -29,7 +34,7 @@ use Rattle.state.proofs.Checks.{met, passed}
 use Rattle.refusals.proofs.Late.{checks-in-two}
 
 -- what fits no instruction, the second or third case, has a number other than 0
-pub misfit-number : (d : Decoded) → OneOf (1 ∷ 2 ∷ []) (tagOf the-type d) → eqb (decodedNumber d) 0 ≡ false
+misfit-number : (d : Decoded) → OneOf (1 ∷ 2 ∷ []) (tagOf the-type d) → eqb (decodedNumber d) 0 ≡ false
 misfit-number (Fits x) (inl e) = absurd (omega arith)
 misfit-number (Fits x) (inr e) = absurd (omega arith)
 misfit-number NoCode k = refl
@@ -58,7 +63,7 @@ module _ (s : Site) (bytes : Bytes) where
   pub step-unsound : not (isSound s) ≡ true → verdict 12 s ≡ stepOf s bytes
   step-unsound e = refused 12 refl (met _ _ e)
 
-  pub step-misfit : (d : Decoded) → not (isSound s) ≡ false → d ≡ decodeOf bytes → eqb (decodedNumber d) 0 ≡ false
+  step-misfit : (d : Decoded) → not (isSound s) ≡ false → d ≡ decodeOf bytes → eqb (decodedNumber d) 0 ≡ false
       → verdict (decodedNumber d) s ≡ stepOf s bytes
   step-misfit d e q z =
       refused (decodedNumber d) z (passed _ _ e ∙ ap number (sym q) ∙ first-misfit d z)
@@ -93,16 +98,62 @@ module _ (s : Site) (bytes : Bytes) (shaped : Shaped s) (x : Instruction) (sound
   stopped n ne e =
       ap (λ (p : Bool). verdict n (cond p next s)) (sym (ne-eqb n 0 ne)) ∙ ap (decided s next) (sym e) ∙ step-fit s bytes x sound fit
 
-  pub step-early : (n : ℕ) → n ≡ first → (n ≡ 0 → ⊥) → verdict n s ≡ stepOf s bytes
+  step-early : (n : ℕ) → n ≡ first → (n ≡ 0 → ⊥) → verdict n s ≡ stepOf s bytes
   step-early n f ne = stopped n ne (total-is n false f (ne-eqb n 0 ne) ∙ sym f)
 
   -- no early check is met, and the late ones are those of the successor
   past-early : (m n : ℕ) (t : Site) → m ≡ first → m ≡ 0 → t ≡ next → n ≡ second t → total ≡ n
   past-early m n t f z q l = total-is m true f (eq-eqb m 0 z) ∙ ap second (sym q) ∙ sym l
 
-  pub step-late : (m n : ℕ) (t : Site) → m ≡ first → m ≡ 0 → t ≡ next → n ≡ second t → (n ≡ 0 → ⊥) → verdict n s ≡ stepOf s bytes
+  step-late : (m n : ℕ) (t : Site) → m ≡ first → m ≡ 0 → t ≡ next → n ≡ second t → (n ≡ 0 → ⊥) → verdict n s ≡ stepOf s bytes
   step-late m n t f z q l ne = stopped n ne (past-early m n t f z q l)
 
-  pub step-accepted : (m n : ℕ) (t : Site) → m ≡ first → m ≡ 0 → t ≡ next → n ≡ second t → n ≡ 0 → verdict 0 t ≡ stepOf s bytes
+  step-accepted : (m n : ℕ) (t : Site) → m ≡ first → m ≡ 0 → t ≡ next → n ≡ second t → n ≡ 0 → verdict 0 t ≡ stepOf s bytes
   step-accepted m n t f z q l e =
       (λ i. verdict 0 (q i)) ∙ ap (decided s next) (sym (past-early m n t f z q l ∙ e)) ∙ step-fit s bytes x sound fit
+
+-- ---- as functions find it, of a state that is sound
+module _ (s : Site) (bytes : Bytes) where
+  -- the bytes fit no instruction
+  pub unfit-step : not (isSound s) ≡ false → (d : Decoded) → d ≡ decodeOf bytes → OneOf (1 ∷ 2 ∷ []) (tagOf the-type d)
+      → {n : ℕ} → n ≡ decodedNumber d → (verdict n s ≡ stepOf s bytes) × (n ≡ 0 → ⊥)
+  unfit-step sound d decoded k e =
+      let other = misfit-number d k in (
+        (λ i. verdict (e i) s) ∙ step-misfit s bytes d sound decoded other,
+        λ z. fails other (holds (eq-eqb (decodedNumber d) 0 (sym e ∙ z))),
+      )
+
+  -- they fit x, which has the row r, and m is the number of its early checks
+  pub record Fitted (x : Instruction) (r : Rule) (m : ℕ) : Type 0 where
+    shaped : Shaped s
+    sound : not (isSound s) ≡ false
+    fit : decodeOf bytes ≡ Fits x
+    row : r ≡ rule x
+    number : m ≡ firstMet (earlyChecks (seenOf s (bytes .activator) (bytes .a) (bytes .b)) (rule x))
+
+  pub fitted : Shaped s → not (isSound s) ≡ false → {d : Decoded} → d ≡ decodeOf bytes → (x : Instruction) → d ≡ Fits x
+      → {v : Seen} {r : Rule} {m : ℕ} → v ≡ seenOf s (bytes .activator) (bytes .a) (bytes .b) → r ≡ rule x → m ≡ firstMet (earlyChecks v r) → Fitted x r m
+  fitted shaped sound decoded x fits read row early =
+      record {
+        shaped = shaped;
+        sound = sound;
+        fit = sym decoded ∙ fits;
+        row = row;
+        number = early ∙ (λ i. firstMet (earlyChecks (read i) (row i)));
+      }
+
+  module _ {x : Instruction} {r : Rule} {m : ℕ} (f : Fitted x r m) where
+    pub early-step : (m ≡ 0 → ⊥) → verdict m s ≡ stepOf s bytes
+    early-step ne = step-early s bytes (f .shaped) x (f .sound) (f .fit) m (f .number) ne
+
+    -- no early check is met, and n is the number of the late ones, of the next state t
+    module _ (passed : m ≡ 0) {t : Site} {n : ℕ} (next : t ≡ successor s x (bytes .activator) (bytes .a) (bytes .b))
+        (late : n ≡ firstMet (resultChecks t (r .target) (r .adds) (bytes .a) (bytes .b))) where
+      late-number : n ≡ firstMet (resultChecks t (rule x .target) (rule x .adds) (bytes .a) (bytes .b))
+      late-number = late ∙ ap (λ (q : Rule). firstMet (resultChecks t (q .target) (q .adds) (bytes .a) (bytes .b))) (f .row)
+
+      pub late-step : (n ≡ 0 → ⊥) → verdict n s ≡ stepOf s bytes
+      late-step ne = step-late s bytes (f .shaped) x (f .sound) (f .fit) m n t (f .number) passed next late-number ne
+
+      pub accepted-step : n ≡ 0 → verdict 0 t ≡ stepOf s bytes
+      accepted-step e = step-accepted s bytes (f .shaped) x (f .sound) (f .fit) m n t (f .number) passed next late-number e

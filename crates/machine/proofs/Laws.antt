@@ -41,7 +41,7 @@ unfolding a-number stepOf stepRefusal
 refusal-numbers s bytes = first-meets a-number (refusals s bytes) tt (each s bytes (decodeOf bytes))
 
 -- and what holds of each number of the list holds of the one that is given
-number-meets : (test : ℕ → Bool) → T (eachOf test (0 ∷ stepNumbers)) → (s : Site) (bytes : Bytes) → T (test (stepOf s bytes .refusal))
+pub number-meets : (test : ℕ → Bool) → T (eachOf test (0 ∷ stepNumbers)) → (s : Site) (bytes : Bytes) → T (test (stepOf s bytes .refusal))
 number-meets test e s bytes = among-meets test (0 ∷ stepNumbers) _ e (refusal-numbers s bytes)
 
 pub never-thirteen : Claims.NeverThirteen

@@ -1,4 +1,4 @@
--- Laws has the claims of specs/. Decide has the order of the step: crate `recipes`, which goes through it for each
--- instruction, uses it too.
+-- Laws has the claims of specs/. Decide has the order of the step, for the function `step` and for crate `recipes`, which
+-- goes through it for each instruction.
 pub mod Decide
 pub mod Laws

@@ -1,5 +1,5 @@
 -- The claims of specs/Claims.antt, each proved under its name, by the ways in which a recipe ends.
---     recipe-two-digits, accepted-place, recipe-unchanged, recipe-sound      what crate `interface` needs besides
+--     recipe-two-digits, accepted-place, recipe-sound      what crate `interface` needs besides
 -- Assumes nothing.
 use Prim.Native.Nat.{ℕ, _+_, _<_, _≤_}
 use mathlib.Core.Path.{_≡_, refl, sym, ap, subst, _∙_}
@@ -21,7 +21,8 @@ use Rattle.soundness.proofs.Laws.{sound-decided}
 use Rattle.instructions.specs.Instructions.{Bytes}
 use Rattle.refusals.specs.Refusals.{stepNumbers}
 use Rattle.machine.specs.Step.{stepOf, run, EachAccepted}
-use Rattle.machine.proofs.Laws.{refusal-numbers, sound-never-twelve}
+use Rattle.machine.proofs.Laws.{sound-never-twelve}
+use Rattle.machine.proofs.Laws as machine
 use Rattle.guarantees.proofs.Demand3.{demand-3}
 use Rattle.recipes.specs.Recipe.{recipeInstructions, misformed}
 use Rattle.recipes.specs.Run.{RecipeVerdict, recipeOf}
@@ -62,12 +63,8 @@ among-three {n} t f g h = go (or-cases (eqb n 0) (among n (12 ∷ 14 ∷ [])) t)
     go (inr q) = middle (or-cases (eqb n 12) (among n (14 ∷ [])) q)
 
 -- ---- the numbers of an instruction
--- what holds of each number of a step holds of the one that is given
-step-meets : (test : ℕ → Bool) → T (eachOf test (0 ∷ stepNumbers)) → (s : Site) (x : Bytes) → T (test (stepOf s x .refusal))
-step-meets test e s x = among-meets test (0 ∷ stepNumbers) _ e (refusal-numbers s x)
-
 never-14 : (s : Site) (x : Bytes) → stepOf s x .refusal ≡ 14 → ⊥
-never-14 s x e = not-so (eqb (stepOf s x .refusal) 14) (step-meets (λ n. not (eqb n 14)) tt s x) (holds (eq-eqb _ 14 e))
+never-14 s x e = not-so (eqb (stepOf s x .refusal) 14) (machine.number-meets (λ n. not (eqb n 14)) tt s x) (holds (eq-eqb _ 14 e))
 
 -- from a sound state on, none is 12
 never-12 : (s : Site) → Shaped s → isSound s ≡ true → (l : List Bytes) (x : Bytes) → stepOf (run s l) x .refusal ≡ 12 → ⊥
@@ -83,11 +80,18 @@ module _ (s : Site) (recipe : List ℕ) (call : Call) where
   v = recipeOf s recipe call
 
   -- ---- entirely or not at all
-  to-entirely : Ending s recipe list v → v .refusal ≡ 0 → Entirely s recipe list
-  to-entirely (unsound e q) z = absurd (differ 12 0 tt (sym (number-of q) ∙ z))
-  to-entirely (unformed e m q) z = absurd (differ 14 0 tt (sym (number-of q) ∙ z))
-  to-entirely (runs e m (ran-all each q)) z = record { sound = holds e; formed = m; each = each }
-  to-entirely (runs e m (ran-until r)) z = absurd (r .refused (sym (number-of (r .verdict)) ∙ z))
+  -- what an accepted recipe has met, and what it gives
+  record Accepted : Type 0 where
+    entirely : Entirely s recipe list
+    state : v .state ≡ run s list
+    place : v .place ≡ 0
+
+  accepted : Ending s recipe list v → v .refusal ≡ 0 → Accepted
+  accepted (unsound e q) z = absurd (differ 12 0 tt (sym (number-of q) ∙ z))
+  accepted (unformed e m q) z = absurd (differ 14 0 tt (sym (number-of q) ∙ z))
+  accepted (runs e m (ran-all each q)) z =
+      record { entirely = record { sound = holds e; formed = m; each = each }; state = state-of q; place = place-of q }
+  accepted (runs e m (ran-until r)) z = absurd (r .refused (sym (number-of (r .verdict)) ∙ z))
 
   from-entirely : Ending s recipe list v → Entirely s recipe list → v .refusal ≡ 0
   from-entirely (unsound e q) y = absurd (fails e (y .sound))
@@ -95,12 +99,6 @@ module _ (s : Site) (recipe : List ℕ) (call : Call) where
   from-entirely (runs e m (ran-all each q)) y = number-of q
   from-entirely (runs e m (ran-until r)) y =
       absurd (r .refused (accepted-there s (r .before) (r .x) (r .rest) (subst (EachAccepted s) (r .list) (y .each))))
-
-  ends-in : Ending s recipe list v → v .refusal ≡ 0 → v .state ≡ run s list
-  ends-in (unsound e q) z = absurd (differ 12 0 tt (sym (number-of q) ∙ z))
-  ends-in (unformed e m q) z = absurd (differ 14 0 tt (sym (number-of q) ∙ z))
-  ends-in (runs e m (ran-all each q)) z = state-of q
-  ends-in (runs e m (ran-until r)) z = absurd (r .refused (sym (number-of (r .verdict)) ∙ z))
 
   leaves : Ending s recipe list v → (v .refusal ≡ 0 → ⊥) → v .state ≡ s
   leaves (unsound e q) f = state-of q
@@ -125,13 +123,6 @@ module _ (s : Site) (recipe : List ℕ) (call : Call) where
         number = number-of (r .verdict);
         refused = λ z. r .refused (sym (number-of (r .verdict)) ∙ z);
       }
-
-  -- an accepted recipe has place 0
-  accepted-at : Ending s recipe list v → v .refusal ≡ 0 → v .place ≡ 0
-  accepted-at (unsound e q) z = place-of q
-  accepted-at (unformed e m q) z = place-of q
-  accepted-at (runs e m (ran-all each q)) z = place-of q
-  accepted-at (runs e m (ran-until r)) z = absurd (r .refused (sym (number-of (r .verdict)) ∙ z))
 
   at-0 : Ending s recipe list v → v .place ≡ 0 → T (among (v .refusal) (0 ∷ 12 ∷ 14 ∷ []))
   at-0 (unsound e q) z = rw q tt
@@ -178,15 +169,15 @@ module _ (s : Site) (recipe : List ℕ) (call : Call) where
   number-meets test e (unformed _ m q) = rw (number-of q) (among-meets test (14 ∷ 0 ∷ stepNumbers) 14 e tt)
   number-meets test e (runs _ m (ran-all each q)) = rw (number-of q) (among-meets test (14 ∷ 0 ∷ stepNumbers) 0 e tt)
   number-meets test e (runs _ m (ran-until r)) =
-      rw (number-of (r .verdict)) (step-meets test (and-right (test 14) (eachOf test (0 ∷ stepNumbers)) e) (run s (r .before)) (r .x))
+      rw (number-of (r .verdict)) (machine.number-meets test (and-right (test 14) (eachOf test (0 ∷ stepNumbers)) e) (run s (r .before)) (r .x))
 
 -- ---- the claims
 pub all-or-nothing : Claims.AllOrNothing
 all-or-nothing s recipe call =
     let ended = ending s recipe call in
     record {
-      accepted-exactly = (to-entirely s recipe call ended, from-entirely s recipe call ended);
-      entirely = ends-in s recipe call ended;
+      accepted-exactly = (λ e. accepted s recipe call ended e .entirely, from-entirely s recipe call ended);
+      entirely = λ e. accepted s recipe call ended e .state;
       not-at-all = leaves s recipe call ended;
     }
 
@@ -217,14 +208,11 @@ pub recipe-two-digits : (s : Site) (recipe : List ℕ) (call : Call) → recipeO
 recipe-two-digits s recipe call = ltb→lt (recipeOf s recipe call .refusal) 100 (number-meets s recipe call (λ n. ltb n 100) tt (ending s recipe call))
 
 pub accepted-place : (s : Site) (recipe : List ℕ) (call : Call) → recipeOf s recipe call .refusal ≡ 0 → recipeOf s recipe call .place ≡ 0
-accepted-place s recipe call e = accepted-at s recipe call (ending s recipe call) e
-
-pub recipe-unchanged : (s : Site) (recipe : List ℕ) (call : Call) → (recipeOf s recipe call .refusal ≡ 0 → ⊥) → recipeOf s recipe call .state ≡ s
-recipe-unchanged s recipe call f = all-or-nothing s recipe call .not-at-all f
+accepted-place s recipe call e = accepted s recipe call (ending s recipe call) e .place
 
 pub recipe-sound : (s : Site) (recipe : List ℕ) (call : Call) → Sound s → Sound (recipeOf s recipe call .state)
 recipe-sound s recipe call h = go (ℕ-discrete (recipeOf s recipe call .refusal) 0)
   where
     go : Dec (recipeOf s recipe call .refusal ≡ 0) → Sound (recipeOf s recipe call .state)
     go (yes e) = rw (all-or-nothing s recipe call .entirely e) (demand-3 s (recipeInstructions call recipe) h .sound)
-    go (no f) = rw (recipe-unchanged s recipe call f) h
+    go (no f) = rw (all-or-nothing s recipe call .not-at-all f) h

@@ -15,8 +15,8 @@ use Rattle.soundness.specs.Tests.{isSound}
 use Rattle.instructions.specs.Instructions.{Bytes, fourBytes}
 use Rattle.machine.specs.Step.{stepOf}
 use Rattle.recipes.specs.Recipe.{misformed}
-use Rattle.recipes.proofs.Running.{Runs, misfit-step, early-step, late-step, accepted-step}
-use Rattle.recipes.proofs.Running.{begins, goes-on, stays-sound, stops, ends}
+use Rattle.machine.proofs.Decide.{unfit-step, Fitted, fitted, early-step, late-step, accepted-step}
+use Rattle.recipes.proofs.Running.{not-unsound, Runs, begins, goes-on, stays-sound, stops, ends}
 use Rattle.recipes.proofs.Laws.{unsound-recipe, misformed-recipe, whole-count}
 use Rattle.recipes.proofs.obey.Statement.{statement}
 use Rattle.recipes.proofs.obey.Tie as tie
@@ -44,40 +44,24 @@ sound c = sym (c .before .is-sound .ensures .0) ∙ is-true _ (so (c .before .is
 formed : (c : tie.Else2 Inv-loop μ-loop) → misformed (now (c .before .before .before .before .before .args .recipe)) ≡ false
 formed c = sym (c .before .is-misformed .ensures) ∙ c .if2 .left
 
--- the step of a turn that an early check ends, or a late one, or none
+-- the bytes fit an instruction, and the early checks are made
 abbrev made : tie.After-early-refusal Inv-loop μ-loop → tie.After-instruction-at Inv-loop μ-loop
 made c = c .before .before .before .before .before .before .before
 
-early-turn : (c : tie.Then3 Inv-loop μ-loop) → let at = made (c .before) in
-    verdict (c .before .early-refusal .result) (here at) ≡ stepOf (here at) (four-bytes at)
-early-turn c =
-    let early = c .before in
-    let fitted = early .before .before .before .before in
-    let at = made early in
-    early-step (here at) (at .before .before .loop .inv .2) (four-bytes at) (fitted .before .before .decode .ensures .0) _ (fitted .decoded .given .1)
-    (early .before .look .ensures) (early .before .before .rule-of .ensures) (early .early-refusal .ensures) (c .if3 .taken)
+turn : (c : tie.After-early-refusal Inv-loop μ-loop) → let x = c .before .before .before .before .decoded .given .0 .0 in
+    Fitted (here (made c)) (four-bytes (made c)) x (c .before .before .rule-of .result) (c .early-refusal .result)
+turn c =
+    let at = c .before .before .before .before in
+    let sound = made c .before .before .loop .inv .2 in
+    fitted _ _ (sound .shaped) (not-unsound _ sound) (at .before .before .decode .ensures .0) (at .decoded .given .0 .0) (at .decoded .given .1)
+    (c .before .look .ensures) (c .before .before .rule-of .ensures) (c .early-refusal .ensures)
 
-late-turn : (c : tie.Then4 Inv-loop μ-loop) → let at = made (c .before .before .before .before) in
-    verdict (c .before .late-refusal .result) (here at) ≡ stepOf (here at) (four-bytes at)
-late-turn c =
-    let next = c .before .before in
-    let early = next .before .before in
-    let fitted = early .before .before .before .before in
-    let at = made early in
-    late-step (here at) (at .before .before .loop .inv .2) (four-bytes at) (fitted .before .before .decode .ensures .0) _ (fitted .decoded .given .1)
-    (early .before .look .ensures) (early .before .before .rule-of .ensures) (early .early-refusal .ensures) (next .before .if3 .left)
-    (next .successor .ensures) (c .before .late-refusal .ensures) (c .if4 .taken)
-
-accepted-turn : (c : tie.Else4 Inv-loop μ-loop) → let at = made (c .before .before .before .before) in
+-- no check is met
+accepted : (c : tie.Else4 Inv-loop μ-loop) → let at = made (c .before .before .before .before) in
     verdict 0 (site (c .before .before .successor .result)) ≡ stepOf (here at) (four-bytes at)
-accepted-turn c =
+accepted c =
     let next = c .before .before in
-    let early = next .before .before in
-    let fitted = early .before .before .before .before in
-    let at = made early in
-    accepted-step (here at) (at .before .before .loop .inv .2) (four-bytes at) (fitted .before .before .decode .ensures .0) _ (fitted .decoded .given .1)
-    (early .before .look .ensures) (early .before .before .rule-of .ensures) (early .early-refusal .ensures) (next .before .if3 .left)
-    (next .successor .ensures) (c .before .late-refusal .ensures) (c .if4 .left)
+    accepted-step _ _ (turn (next .before .before)) (next .before .if3 .left) (next .successor .ensures) (c .before .late-refusal .ensures) (c .if4 .left)
 
 -- ---- what is returned
 returns : tie.Need-returns Inv-loop μ-loop
@@ -99,7 +83,8 @@ returns-3 c =
     let decode = misfit .before .before in
     let at = decode .before in
     let loop = at .before .before .loop in
-    let stepped = misfit-step (here at) (loop .inv .2) (four-bytes at) (decode .decode .ensures .0) (misfit .before .match .keys2) (misfit .misfit .ensures) in
+    let d = decode .decode in
+    let stepped = unfit-step (here at) (four-bytes at) (not-unsound _ (loop .inv .2)) (d .result) (d .ensures .0) (misfit .before .match .keys2) (misfit .misfit .ensures) in
     c .outcome-of3 .ensures ∙ stops _ _ _ _ _ (loop .inv .2) (loop .inv .3) (omega arith) (at .instruction-at .ensures) (stepped .0) (stepped .1)
 
 returns-4 : tie.Need-returns-4 Inv-loop μ-loop
@@ -107,7 +92,8 @@ returns-4 c =
     let taken = c .before in
     let at = made (taken .before) in
     let loop = at .before .before .loop in
-    c .outcome-of4 .ensures ∙ stops _ _ _ _ _ (loop .inv .2) (loop .inv .3) (omega arith) (at .instruction-at .ensures) (early-turn taken) (taken .if3 .taken)
+    c .outcome-of4 .ensures ∙ stops _ _ _ _ _ (loop .inv .2) (loop .inv .3) (omega arith) (at .instruction-at .ensures)
+    (early-step _ _ (turn (taken .before)) (taken .if3 .taken)) (taken .if3 .taken)
 
 add-outcome-of-3 : tie.Need-add-outcome-of-3 Inv-loop μ-loop
 add-outcome-of-3 c = let inv = made (c .before .before .before .before) .before .before .loop .inv in omega (arith, inv .0, inv .1)
@@ -118,9 +104,11 @@ cast-outcome-of-3 c = let inv = made (c .before .before .before .before) .before
 returns-5 : tie.Need-returns-5 Inv-loop μ-loop
 returns-5 c =
     let taken = c .before in
-    let at = made (taken .before .before .before .before) in
+    let next = taken .before .before in
+    let at = made (next .before .before) in
     let loop = at .before .before .loop in
-    c .outcome-of5 .ensures ∙ stops _ _ _ _ _ (loop .inv .2) (loop .inv .3) (omega arith) (at .instruction-at .ensures) (late-turn taken) (taken .if4 .taken)
+    let late = late-step _ _ (turn (next .before .before)) (next .before .if3 .left) (next .successor .ensures) (taken .before .late-refusal .ensures) in
+    c .outcome-of5 .ensures ∙ stops _ _ _ _ _ (loop .inv .2) (loop .inv .3) (omega arith) (at .instruction-at .ensures) (late (taken .if4 .taken)) (taken .if4 .taken)
 
 add-k : tie.Need-add-k Inv-loop μ-loop
 add-k c = let inv = made (c .before .before .before .before) .before .before .loop .inv in omega (arith, inv .0, inv .1)
@@ -131,8 +119,8 @@ loop-again c =
     let inv = at .before .before .loop .inv in (
       omega arith,
       inv .1,
-      stays-sound _ _ _ _ _ (inv .2) (inv .3) (omega arith) (at .instruction-at .ensures) (accepted-turn c),
-      goes-on _ _ _ _ _ (inv .2) (inv .3) (omega arith) (at .instruction-at .ensures) (accepted-turn c),
+      stays-sound _ _ _ _ _ (inv .2) (inv .3) (omega arith) (at .instruction-at .ensures) (accepted c),
+      goes-on _ _ _ _ _ (inv .2) (inv .3) (omega arith) (at .instruction-at .ensures) (accepted c),
     )
 
 returns-6 : tie.Need-returns-6 Inv-loop μ-loop
