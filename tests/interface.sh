@@ -97,6 +97,14 @@ asked=$(nm -g --undefined-only "$library" | awk 'NF == 2 && $2 !~ /^mem(cpy|set)
 [ -z "$asked" ] || fail "the archive asks for $asked"
 [ -z "$(nm "$library" | awk '$2 ~ /^[bBcCdDsS]$/')" ] || fail 'the archive has data that can be written to'
 
+# The lowest mark is found by one look-up: no jump, no call, and one load from an address that the byte decides. A load
+# from a fixed place has nothing but %rip, %rsp or %rbp in its address, and lea loads nothing.
+look_up=$(objdump -d --no-show-raw-insn --disassemble=panelrights_lowest_mark "$library" |
+    sed -n '/<panelrights_lowest_mark>:$/,/^$/p')
+loads=$(grep -vE '\slea\s|\(%r(ip|sp|bp)\),' <<<"$look_up" | grep -c '),' || true)
+[ "$loads" = 1 ] || fail "the lowest mark takes $loads loads from an address that the byte decides"
+! grep -qE '\s(j|call|loop)[a-z]*\s' <<<"$look_up" || fail 'the lowest mark takes a jump or a call'
+
 # Each name that the header gives a number is compared with its number.
 numbered=$(grep -oE 'PANELRIGHTS_[A-Z_]+ = ' include/panelrights.h | sed 's/ = //' | sort)
 compared=$(sed -nE 's/^ *CHECK_NUMBER\((PANELRIGHTS_[A-Z_]+), [0-9]+\);$/\1/p' tests/interface/names.c | sort)

@@ -92,6 +92,16 @@ pub fn read(file: &[u8]) -> u8 {
     refusal
 }
 
+/// The place of the lowest mark.
+pub fn lowest_mark(marks: u8) -> u8 {
+    let place = plain::lowest_mark(marks);
+    let answers = [library::lowest_mark(marks), place, ideal::lowest_mark(marks)];
+    demand(answers.map(u16::from), [true, true], || {
+        format!("The marks {marks:08b}")
+    });
+    place
+}
+
 /// The record by its numbers and pairs.
 fn tell(s: &Record) -> String {
     let members = |list: &[bool]| -> Vec<usize> { (0..list.len()).filter(|&i| list[i]).collect() };

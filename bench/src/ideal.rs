@@ -202,3 +202,9 @@ pub fn access(s: &Rows, area: u32, object: u32) -> u16 {
         Err(refusal) => REFUSED + u16::from(refusal),
     }
 }
+
+/// Not inlined, as that of plain is not.
+#[inline(never)]
+pub fn lowest_mark(marks: u8) -> u8 {
+    marks.trailing_zeros() as u8
+}

@@ -42,3 +42,9 @@ pub fn read(file: &[u8], state: &mut RecordBytes) -> u8 {
     // SAFETY: as above, for both; a borrowed slice and an array borrowed to be written don't overlap.
     unsafe { sys::panelrights_read_file(file.as_ptr(), file.len(), state.as_mut_ptr(), state.len()) }
 }
+
+/// The place (0 to 7) of the lowest mark set in the byte, 8 if none.
+pub fn lowest_mark(marks: u8) -> u8 {
+    // SAFETY: a number is all that it takes.
+    unsafe { sys::panelrights_lowest_mark(marks) }
+}

@@ -1,12 +1,13 @@
 //! Measures the library over the C interface beside two baselines in Rust, one plain and one ideal, in one run: the
-//! step, the recipe, the access question and the reader of site files; and the program PanelRights beside a session in
-//! plain Rust. Before that it compares the answers of the three on random instructions, of which an argument gives the
-//! number, and on half as many random recipes.
+//! step, the recipe, the access question, the reader of site files and the lowest mark; and the program PanelRights
+//! beside a session in plain Rust. Before that it compares the answers of the three on random instructions, of which an
+//! argument gives the number, on half as many random recipes, and on every byte of marks.
 
 #![deny(unsafe_code)]
 
 mod agree;
 mod agree_recipes;
+mod area_lists;
 mod borders;
 mod files;
 mod ideal;
@@ -48,6 +49,7 @@ fn main() {
     agree_recipes::compare(compared / 2)
         .into_iter()
         .for_each(|line| report.say(line));
+    report.say(area_lists::compare());
     let states = States::new();
     let mut races = races::all(&states);
     timing::run(&mut races);

@@ -161,3 +161,17 @@ pub fn access(s: &Record, area: u32, object: u32) -> u16 {
         Err(refusal) => REFUSED + u16::from(refusal),
     }
 }
+
+/// The marks one after the other, from the lowest on: the loop that the library's table has replaced. Not inlined, as
+/// the library is not.
+#[inline(never)]
+pub fn lowest_mark(marks: u8) -> u8 {
+    let mut rest = marks;
+    for place in 0..8 {
+        if rest % 2 == 1 {
+            return place;
+        }
+        rest /= 2;
+    }
+    8
+}

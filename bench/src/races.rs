@@ -1,9 +1,10 @@
-//! What is timed: the step, the recipe, the access question and the reader, over the C interface and beside the two
-//! baselines.
+//! What is timed: the step, the recipe, the access question, the reader and the lowest mark, over the C interface and
+//! beside the two baselines.
 //!
 //! In the time is what a caller pays. The library gets the bytes of a record by pointer and length, and tests them; the
 //! baselines get a state of their own, which can't be anything else. Nobody keeps anything between calls.
 
+use crate::area_lists::AreaList;
 use crate::openings::{imports, misformed, refused_last, two_schools};
 use crate::recipe::{refused, Call};
 use crate::record::{Record, RECORD_BYTES};
@@ -12,14 +13,18 @@ use crate::rows::Rows;
 use crate::rules::{Bytes, MOST_STEPS};
 use crate::states::{farthest, States};
 use crate::timing::Race;
-use crate::{agree, files, ideal, ideal_reader, library, plain, plain_reader, random};
+use crate::{agree, area_lists, files, ideal, ideal_reader, library, plain, plain_reader, random};
 use chance::Chance;
 use std::hint::black_box;
 use std::rc::Rc;
 
 pub fn all(s: &States) -> Vec<Race<'_>> {
     let races = steps(s).into_iter().chain(recipes(s));
-    races.chain(questions(s)).chain(readings(s)).collect()
+    races
+        .chain(questions(s))
+        .chain(readings(s))
+        .chain(area_lists())
+        .collect()
 }
 
 /// An instruction with this code that the state accepts.
@@ -147,5 +152,17 @@ fn readings(s: &States) -> [Race<'_>; 3] {
         let by_plain = move || plain_reader::read(black_box(&for_plain));
         let by_ideal = move || ideal_reader::read(black_box(&for_ideal));
         Race::new(name, None, by_library, by_plain, by_ideal)
+    })
+}
+
+/// Lists of areas are gone through: few, whose marks the branch predictor learns, and so many that it can't.
+fn area_lists() -> [Race<'static>; 2] {
+    [128, 16_384].map(|count| {
+        let lists: Rc<[AreaList]> = area_lists::random(count).into();
+        let (for_plain, for_ideal) = (lists.clone(), lists.clone());
+        let by_library = move || area_lists::sum(black_box(&lists), library::lowest_mark);
+        let by_plain = move || area_lists::sum(black_box(&for_plain), plain::lowest_mark);
+        let by_ideal = move || area_lists::sum(black_box(&for_ideal), ideal::lowest_mark);
+        Race::new(format!("area lists ({count})"), None, by_library, by_plain, by_ideal)
     })
 }

@@ -1,4 +1,4 @@
--- The claims of specs/Marks.antt, and the two ends that a search from place 0 upwards can have. Assumes nothing.
+-- The claims of specs/Marks.antt. Assumes nothing.
 use mathlib.Core.Path.{_≡_, refl, sym, _∙_}
 use mathlib.Core.Bool.{Bool, true, false, cond, true≢false}
 use Prim.Native.Nat.{ℕ, zero, suc, _+_, _<_}
@@ -8,25 +8,17 @@ use Rattle.state.specs.Below.{firstFrom}
 use Rattle.marks.specs.Marks.{marked, Lowest, lowest, LowestIsRight, OnlyOne}
 
 -- no mark below place k is set: what a search knows that has come to k
-abbrev pub NoneBelow : ℕ → ℕ → Type 0
+abbrev NoneBelow : ℕ → ℕ → Type 0
 NoneBelow b k = (j : ℕ) → j < k → marked b j ≡ false
-
--- it ends at the first mark that is set
-pub found : {b k : ℕ} → k < 8 → NoneBelow b k → marked b k ≡ true → Lowest b k
-found l h e = record { none-lower = h; is-set = λ _. e; at-most = omega arith }
-
--- or it has passed all eight
-pub none-found : {b k : ℕ} → k ≡ 8 → NoneBelow b k → Lowest b k
-none-found e h = record { none-lower = h; is-set = λ l. absurd (omega arith); at-most = omega arith }
 
 -- one step, by the mark t at place k; m is what the search further up gives
 step : {b k m : ℕ} (t : Bool) → marked b k ≡ t → k < 8 → NoneBelow b k → (marked b k ≡ false → Lowest b m) → Lowest b (cond t k m)
-step true e l h up = found l h e
+step true e l h up = record { none-lower = h; is-set = λ _. e; at-most = omega arith }
 step false e l h up = up e
 
 from : (b n k : ℕ) → k + n ≡ 8 → NoneBelow b k → Lowest b (firstFrom (marked b) n k)
 unfolding firstFrom
-from b zero k e h = none-found (omega arith) h
+from b zero k e h = record { none-lower = h; is-set = λ l. absurd (omega arith); at-most = omega arith }
 from b (suc n) k e h =
     step (marked b k) refl (omega arith) h (λ clear. from b n (k + 1) (omega arith) (below-more _ k h clear))
 
