@@ -98,7 +98,7 @@ asked=$(nm -g --undefined-only "$library" | awk 'NF == 2 && $2 !~ /^mem(cpy|set)
 [ -z "$(nm "$library" | awk '$2 ~ /^[bBcCdDsS]$/')" ] || fail 'the archive has data that can be written to'
 
 # The lowest mark is found by one look-up: no jump, no call, and one load from an address that the byte decides. A load
-# from a fixed place has nothing but %rip, %rsp or %rbp in its address, and lea loads nothing.
+# from a fixed address has nothing but %rip, %rsp or %rbp in it, and lea loads nothing.
 look_up=$(objdump -d --no-show-raw-insn --disassemble=panelrights_lowest_mark "$library" |
     sed -n '/<panelrights_lowest_mark>:$/,/^$/p')
 loads=$(grep -vE '\slea\s|\(%r(ip|sp|bp)\),' <<<"$look_up" | grep -c '),' || true)
