@@ -3,7 +3,7 @@
  *
  * Link with libpanelrights.a (`make install` puts it in place; `pkg-config --cflags --libs panelrights`
  * gives the flags): C99 or later, x86-64 Linux. The library needs memcpy and memset, allocates nothing and
- * keeps nothing between calls. A call takes less than 64 KiB of stack.
+ * keeps nothing between calls. A call takes less than 16 KiB of stack.
  *
  * You check nothing beforehand. Every function takes any bytes, any numbers and any length, and gives one
  * answer or one refusal number. What you must see to is C's own part:
@@ -46,25 +46,36 @@ enum {
     PANELRIGHTS_AREAS = 32,
     PANELRIGHTS_OBJECTS = 64,
     PANELRIGHTS_MOST_STEPS = 8,         /* an object may be lent across at most so many steps */
-    PANELRIGHTS_STATE_BYTES = 8320,     /* what panelrights_state_bytes() gives, for an array's length */
+    PANELRIGHTS_STATE_BYTES = 1040,     /* what panelrights_state_bytes() gives, for an array's length */
     PANELRIGHTS_RECIPE_ENTRY_BYTES = 5, /* how many bytes each instruction of a recipe has */
     PANELRIGHTS_RECIPE_MOST = 16        /* how many instructions a recipe may have */
 };
 
 /*
- * The record of a state: 8,320 bytes, one a place, 1 where a number is listed or a pair is there, and 0
- * where not. Bytes of another length, or with any other byte in them, are no record. Equal states have
- * equal records, so records may be copied and compared as bytes.
+ * The record of a state: 1,040 bytes, and as many for each copy that is kept for undo (8,320 before version 3).
+ * It has rows of 32 bits, each of four bytes, the low byte first: bit n of a row is bit n % 8, from the lowest,
+ * of its byte n / 8. A bit is 1 where a number is listed or a pair is there, and 0 where not.
  *
- *   from byte  bytes  place                          holds
- *           0     32  user                           the user is listed
- *          32     32  area                           the area is listed
- *          64     64  object                         the object is listed
- *         128  1,024  user * 32 + area               the user owns the area
- *       1,152  2,048  object * 32 + area             the object is defined in the area
- *       3,200  1,024  inner * 32 + outer             the inner area lies in the outer
- *       4,224  2,048  object * 32 + area             the area imports the object
- *       6,272  2,048  object * 32 + area             the area exports the object
+ *   from byte  bytes  row          bit          is 1 where
+ *           0      4  0            user         the user is listed
+ *           4      4  0            area         the area is listed
+ *           8      8  object / 32  object % 32  the object is listed
+ *          16    128  user         area         the user owns the area
+ *         144    256  object       area         the object is defined in the area
+ *         400    128  inner        outer        the inner area lies in the outer
+ *         528    256  object       area         the area imports the object
+ *         784    256  object       area         the area exports the object
+ *
+ * So user 3 owns area 10 where bit 2 of byte 16 + 3 * 4 + 1 is 1.
+ *
+ * Any 1,040 bytes are a record, of a sound state or of another; bytes of any other length are none. Equal
+ * states have equal records and different states different ones, so records may be copied and compared as
+ * bytes.
+ *
+ * A program for version 2 that reads records by the macros below is compiled again and not changed. Where it
+ * reads or writes bytes of them by hand, what was byte p is now bit p % 8 of byte p / 8: state[p] == 1 becomes
+ * (state[p / 8] >> p % 8 & 1) == 1, and state[p] = 1 becomes state[p / 8] |= 1 << p % 8. A record that version
+ * 2 wrote has another length, and is refused.
  *
  * A record is for the memory of one program: a later version of the library may have another length and
  * another layout (compare panelrights_state_bytes() with PANELRIGHTS_STATE_BYTES once, at the start). On
@@ -72,28 +83,29 @@ enum {
  * other state of it.
  *
  * These read a record, of which all bytes must be there: 1 if the number is listed or the pair is there,
- * else 0, also for a number out of range. They may evaluate an argument twice. A pair is written as in the
- * table: the user or the object first, then the area.
+ * else 0, also for a number out of range. They may evaluate an argument more than once. A pair is written as
+ * in the table: the row first, then the bit.
  */
 #define PANELRIGHTS_HAS_USER(state, user) PANELRIGHTS_LISTED_(state, 0, PANELRIGHTS_USERS, user)
-#define PANELRIGHTS_HAS_AREA(state, area) PANELRIGHTS_LISTED_(state, 32, PANELRIGHTS_AREAS, area)
-#define PANELRIGHTS_HAS_OBJECT(state, object) PANELRIGHTS_LISTED_(state, 64, PANELRIGHTS_OBJECTS, object)
-#define PANELRIGHTS_OWNS(state, user, area) PANELRIGHTS_PAIR_(state, 128, PANELRIGHTS_USERS, user, area)
+#define PANELRIGHTS_HAS_AREA(state, area) PANELRIGHTS_LISTED_(state, 4, PANELRIGHTS_AREAS, area)
+#define PANELRIGHTS_HAS_OBJECT(state, object) PANELRIGHTS_LISTED_(state, 8, PANELRIGHTS_OBJECTS, object)
+#define PANELRIGHTS_OWNS(state, user, area) PANELRIGHTS_PAIR_(state, 16, PANELRIGHTS_USERS, user, area)
 #define PANELRIGHTS_DEFINED_IN(state, object, area) \
-    PANELRIGHTS_PAIR_(state, 1152, PANELRIGHTS_OBJECTS, object, area)
+    PANELRIGHTS_PAIR_(state, 144, PANELRIGHTS_OBJECTS, object, area)
 #define PANELRIGHTS_LIES_IN(state, inner, outer) \
-    PANELRIGHTS_PAIR_(state, 3200, PANELRIGHTS_AREAS, inner, outer)
+    PANELRIGHTS_PAIR_(state, 400, PANELRIGHTS_AREAS, inner, outer)
 #define PANELRIGHTS_IMPORTED_BY(state, object, area) \
-    PANELRIGHTS_PAIR_(state, 4224, PANELRIGHTS_OBJECTS, object, area)
+    PANELRIGHTS_PAIR_(state, 528, PANELRIGHTS_OBJECTS, object, area)
 #define PANELRIGHTS_EXPORTED_BY(state, object, area) \
-    PANELRIGHTS_PAIR_(state, 6272, PANELRIGHTS_OBJECTS, object, area)
+    PANELRIGHTS_PAIR_(state, 784, PANELRIGHTS_OBJECTS, object, area)
 
 /* For the macros above only. */
 #define PANELRIGHTS_LISTED_(state, start, limit, number) \
-    ((size_t)(number) < (size_t)(limit) && (state)[(size_t)(start) + (size_t)(number)] == 1)
+    ((size_t)(number) < (size_t)(limit) && PANELRIGHTS_BIT_(state, (size_t)(start), (size_t)(number)))
 #define PANELRIGHTS_PAIR_(state, start, limit, first, area)                    \
     ((size_t)(first) < (size_t)(limit) && (size_t)(area) < PANELRIGHTS_AREAS && \
-     (state)[(size_t)(start) + (size_t)(first) * 32 + (size_t)(area)] == 1)
+     PANELRIGHTS_BIT_(state, (size_t)(start) + (size_t)(first) * 4, (size_t)(area)))
+#define PANELRIGHTS_BIT_(state, row, bit) ((state)[(row) + (bit) / 8] >> (bit) % 8 & 1)
 
 /* The codes of instructions. `a` is an area in all; what `b` is stands behind each. */
 enum panelrights_code {
@@ -139,7 +151,7 @@ enum panelrights_refusal {
     PANELRIGHTS_WOULD_LACK_ACCESS = 10, /* even with the new import or export the area lacks access */
     PANELRIGHTS_WOULD_LOSE_ACCESS = 11, /* an area would lack access to what it imports or exports; code 8: so
                                            long as another area imports b, or any area at all exports it */
-    PANELRIGHTS_UNSOUND_STATE = 12,     /* the bytes are no record, or the state is not sound */
+    PANELRIGHTS_UNSOUND_STATE = 12,     /* a record of another length, or of a state that is not sound */
     PANELRIGHTS_RECIPE_FORM = 14,       /* the bytes are no recipe: a length that is not a multiple of 5 from 5 to
                                            80, a kind above 1, or a value above 3 where the kind is 1 */
     PANELRIGHTS_OWN_IMPORT = 15,        /* code 9: area a defines b itself, so it has nobody to borrow it from */
@@ -161,7 +173,7 @@ enum panelrights_refusal {
     PANELRIGHTS_BUFFER_LENGTH = 31
 };
 
-/* How many bytes the record of a state has: 8,320. */
+/* How many bytes the record of a state has: 1,040. */
 size_t panelrights_state_bytes(void);
 
 /*
@@ -172,7 +184,7 @@ uint8_t panelrights_founding(uint8_t *state, size_t state_len);
 
 /*
  * Obeys one instruction. 0, and the record is that of the state after it; or the refusal, and no byte is
- * changed. A record of another length, or with a byte other than 0 and 1, is 12.
+ * changed. A record of another length is 12.
  *
  * An add (an odd code) that got 0 is taken back by the matching remove: code + 1, with the same activator, a
  * and b. While the record is as the add left it, the remove gets 0, and every byte is then as it was before

@@ -25,7 +25,7 @@ compile_c() {
     quietly gcc -std=c99 -O2 -Wall -Wextra -Werror -pedantic "$@"
 }
 
-checks=(tests/interface/{main,names,machine,recipes,forms,agreement,records,files,edges,check}.c)
+checks=(tests/interface/{main,names,machine,recipes,forms,agreement,records,reading,files,edges,check}.c)
 
 # The C checks, built with the flags given to the compiler; prints how many there were.
 run_checks() {

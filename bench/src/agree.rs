@@ -3,7 +3,7 @@
 use crate::borders::{self, Borders};
 use crate::random::{self, Span};
 use crate::recipe::Call;
-use crate::record::{cell, Record, RECORD_BYTES};
+use crate::record::{cell, Record};
 use crate::rows::Rows;
 use crate::rules::{Bytes, NO_ACCESS, REFUSED};
 use crate::{files, ideal, ideal_reader, library, plain, plain_reader};
@@ -73,9 +73,6 @@ pub fn access(s: &Record, area: u32, object: u32) -> u16 {
 
 /// The refusal of the file, 0 for none.
 pub fn read(file: &[u8]) -> u8 {
-    // No record, so that whatever the library leaves as it was is seen.
-    let mut state = [7; RECORD_BYTES];
-    let by_library = library::read(file, &mut state);
     let founding = Record::founding();
     let (by_ideal, rows) = match ideal_reader::read(file) {
         Ok(rows) => (0, rows),
@@ -85,7 +82,11 @@ pub fn read(file: &[u8]) -> u8 {
         Ok(s) => (0, s),
         Err(refusal) => (refusal, founding),
     };
-    let alike = [state == s.bytes(), rows == Rows::of(&s)];
+    let expected = s.bytes();
+    // Each bit is another than it should become, so that whatever the library leaves as it was is seen.
+    let mut state = expected.map(|byte| !byte);
+    let by_library = library::read(file, &mut state);
+    let alike = [state == expected, rows == Rows::of(&s)];
     demand([by_library, refusal, by_ideal].map(u16::from), alike, || {
         format!("The file {file:?}")
     });

@@ -1,14 +1,13 @@
 //! What is timed: the step, the recipe, the access question, the reader and the lowest mark, over the C interface and
 //! beside the two baselines.
 //!
-//! In the time is what a caller pays. The library gets the bytes of a record by pointer and length, and tests them; the
-//! baselines get a state of their own, which can't be anything else. Nobody keeps anything between calls.
+//! In the time is what a caller pays. The library gets the bytes of a record by pointer and length; the baselines get a
+//! state of their own. Nobody keeps anything between calls.
 
 use crate::area_lists::AreaList;
 use crate::openings::{imports, misformed, refused_last, two_schools};
 use crate::recipe::{refused, Call};
 use crate::record::{Record, RECORD_BYTES};
-use crate::report::{LIMIT, RECIPE_LIMIT, SMALL_LIMIT};
 use crate::rows::Rows;
 use crate::rules::{Bytes, MOST_STEPS};
 use crate::states::{farthest, States};
@@ -39,22 +38,22 @@ fn acceptable(s: &Record, code: u8) -> Bytes {
 }
 
 /// A turn makes the next state of one that stays as it was. Library and ideal write in place, so they get a copy of the
-/// state for each call, 8,320 and 1,040 bytes, and its time counts; plain makes its copy itself. In the chain object 62
-/// goes from area 7 to area 15: removed is its last export, on which nothing rests, and added is one at 8 steps. The
-/// own import is refused.
+/// state for each call, 1,040 bytes, and its time counts; plain makes its copy itself. In the chain object 62 goes from
+/// area 7 to area 15: removed is its last export, on which nothing rests, and added is one at 8 steps. The own import
+/// is refused.
 fn steps(s: &States) -> [Race<'_>; 9] {
-    let cases: [(&str, &Record, Bytes, u8, f64); 9] = [
-        ("dense, remove", &s.dense, [12, 0, 30, 63], 0, LIMIT),
-        ("dense, add", &s.dense, [9, 0, 30, 63], 0, LIMIT),
-        ("dense, own import", &s.dense, [9, 0, 31, 63], 15, LIMIT),
-        ("chain, remove", &s.chain, [12, 0, 14, 62], 0, LIMIT),
-        ("chain, add", &s.chain, [11, 0, 15, 62], 0, LIMIT),
-        ("random, remove", &s.random, acceptable(&s.random, 12), 0, LIMIT),
-        ("random, add", &s.random, acceptable(&s.random, 9), 0, LIMIT),
-        ("small, remove", &s.small, [10, 0, 0, 9], 0, SMALL_LIMIT),
-        ("small, add", &s.small, [11, 0, 2, 9], 0, SMALL_LIMIT),
+    let cases: [(&str, &Record, Bytes, u8); 9] = [
+        ("dense, remove", &s.dense, [12, 0, 30, 63], 0),
+        ("dense, add", &s.dense, [9, 0, 30, 63], 0),
+        ("dense, own import", &s.dense, [9, 0, 31, 63], 15),
+        ("chain, remove", &s.chain, [12, 0, 14, 62], 0),
+        ("chain, add", &s.chain, [11, 0, 15, 62], 0),
+        ("random, remove", &s.random, acceptable(&s.random, 12), 0),
+        ("random, add", &s.random, acceptable(&s.random, 9), 0),
+        ("small, remove", &s.small, [10, 0, 0, 9], 0),
+        ("small, add", &s.small, [11, 0, 2, 9], 0),
     ];
-    cases.map(|(name, s, bytes, expected, limit)| {
+    cases.map(|(name, s, bytes, expected)| {
         assert_eq!(agree::step(s, bytes).0, expected, "{name}: another answer");
         let (record, rows) = (s.bytes(), Rows::of(s));
         let mut state = record;
@@ -69,29 +68,27 @@ fn steps(s: &States) -> [Race<'_>; 9] {
             black_box(&state);
             refusal
         };
-        Race::new(format!("step {name}"), Some(limit), by_library, by_plain, by_ideal)
+        Race::new(format!("step {name}"), by_library, by_plain, by_ideal).limited()
     })
 }
 
 /// Beside each recipe goes its first instruction alone, as a step of the library.
 fn recipes(s: &States) -> [Race<'_>; 7] {
     let [dense, chain, random] = [&s.spare.dense, &s.spare.chain, &s.spare.random];
-    let limit = Some(RECIPE_LIMIT);
-    let at_last = refused(16, 6);
-    let cases: [(&str, &Record, Call, u16, Option<f64>); 7] = [
-        ("dense, 16 adds", dense, two_schools(dense), 0, None),
-        ("chain, 16 adds", chain, two_schools(chain), 0, limit),
-        ("random, 16 adds", random, two_schools(random), 0, limit),
-        ("small, 16 adds", &s.small, two_schools(&s.small), 0, limit),
-        ("stock, 16 imports", &s.stock, imports(), 0, None),
-        ("chain, refused at 16", chain, refused_last(chain), at_last, None),
-        ("chain, refused as 14", chain, misformed(chain), 14, None),
+    let cases: [(&str, &Record, Call, u16); 7] = [
+        ("dense, 16 adds", dense, two_schools(dense), 0),
+        ("chain, 16 adds", chain, two_schools(chain), 0),
+        ("random, 16 adds", random, two_schools(random), 0),
+        ("small, 16 adds", &s.small, two_schools(&s.small), 0),
+        ("stock, 16 imports", &s.stock, imports(), 0),
+        ("chain, refused at 16", chain, refused_last(chain), refused(16, 6)),
+        ("chain, refused as 14", chain, misformed(chain), 14),
     ];
-    cases.map(|(name, s, call, expected, limit)| recipe_race(name, s, call, expected, limit))
+    cases.map(|(name, s, call, expected)| recipe_race(name, s, call, expected))
 }
 
 /// Copies of the state as for a step.
-fn recipe_race<'a>(name: &str, s: &'a Record, call: Call, expected: u16, limit: Option<f64>) -> Race<'a> {
+fn recipe_race<'a>(name: &str, s: &'a Record, call: Call, expected: u16) -> Race<'a> {
     assert_eq!(agree::recipe(s, &call).0, expected, "{name}: another answer");
     let first = call.first();
     assert_eq!(agree::step(s, first).0, 0, "{name}: the first instruction is refused");
@@ -115,9 +112,9 @@ fn recipe_race<'a>(name: &str, s: &'a Record, call: Call, expected: u16, limit: 
         state_of_one.copy_from_slice(black_box(&record));
         library::step(&mut state_of_one, black_box(first))
     };
-    Race::new(format!("recipe {name}"), None, by_library, by_plain, by_ideal)
-        .beside("one add", limit, one_add)
-        .beside("plain asking once", None, asking_once)
+    Race::new(format!("recipe {name}"), by_library, by_plain, by_ideal)
+        .beside("one add", one_add)
+        .beside("plain asking once", asking_once)
 }
 
 /// The access question asks first whether the state is sound, as document 01 has it: that is in the time, of all three.
@@ -135,7 +132,7 @@ fn questions(s: &States) -> [Race<'_>; 5] {
         let by_library = move || library::access(black_box(&record), black_box(area), black_box(object));
         let by_plain = move || plain::access(black_box(s), black_box(area), black_box(object));
         let by_ideal = move || ideal::access(black_box(&rows), black_box(area), black_box(object));
-        Race::new(format!("access {name}"), None, by_library, by_plain, by_ideal)
+        Race::new(format!("access {name}"), by_library, by_plain, by_ideal).limited()
     })
 }
 
@@ -151,7 +148,7 @@ fn readings(s: &States) -> [Race<'_>; 3] {
         let by_library = move || library::read(black_box(&file), &mut state);
         let by_plain = move || plain_reader::read(black_box(&for_plain));
         let by_ideal = move || ideal_reader::read(black_box(&for_ideal));
-        Race::new(name, None, by_library, by_plain, by_ideal)
+        Race::new(name, by_library, by_plain, by_ideal).limited()
     })
 }
 
@@ -163,6 +160,6 @@ fn area_lists() -> [Race<'static>; 2] {
         let by_library = move || area_lists::sum(black_box(&lists), library::lowest_mark);
         let by_plain = move || area_lists::sum(black_box(&for_plain), plain::lowest_mark);
         let by_ideal = move || area_lists::sum(black_box(&for_ideal), ideal::lowest_mark);
-        Race::new(format!("area lists ({count})"), None, by_library, by_plain, by_ideal)
+        Race::new(format!("area lists ({count})"), by_library, by_plain, by_ideal)
     })
 }

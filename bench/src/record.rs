@@ -15,9 +15,9 @@ pub struct Record {
     pub exports: [bool; 2048],
 }
 
-/// A record as the C interface has it.
+/// A record as the C interface has it: the same places in the same order, eight in a byte, the first in its lowest bit.
 pub type RecordBytes = [u8; RECORD_BYTES];
-pub const RECORD_BYTES: usize = 8320;
+pub const RECORD_BYTES: usize = 1040;
 
 /// The place of a pair in its relation.
 pub fn cell(first: usize, area: usize) -> usize {
@@ -63,8 +63,8 @@ impl Record {
 
     pub fn bytes(&self) -> RecordBytes {
         let mut bytes = [0; RECORD_BYTES];
-        for (byte, &there) in bytes.iter_mut().zip(self.parts().into_iter().flatten()) {
-            *byte = u8::from(there);
+        for (place, &there) in self.parts().into_iter().flatten().enumerate() {
+            bytes[place / 8] |= u8::from(there) << (place % 8);
         }
         bytes
     }

@@ -6,18 +6,17 @@ use std::process::Command;
 
 const DOCUMENT: &str = concat!(env!("CARGO_MANIFEST_DIR"), "/../docs/BENCHMARKS.md");
 
-/// How many times what plain takes a step may take: on the dense, chain and random states, and on the small one.
-pub const LIMIT: f64 = 1.3;
-pub const SMALL_LIMIT: f64 = 1.6;
-
-/// How many times what one add takes a recipe of 16 adds may take: on the chain, random and small states.
-pub const RECIPE_LIMIT: f64 = 4.0;
+/// The limits on steps, questions and readings: the library takes at most so many times what ideal takes, and less than
+/// so many times what plain takes.
+const BY_IDEAL: f64 = 2.0;
+const BY_PLAIN: f64 = 0.5;
 
 #[derive(Default)]
 pub struct Report {
     lines: Vec<String>,
-    /// What is over its limit: steps (0), and recipes beside one add (1).
-    over: [Vec<String>; 2],
+    /// The lines that do not keep the limit by ideal, and the limit by plain.
+    over_ideal: Vec<String>,
+    over_plain: Vec<String>,
 }
 
 impl Report {
@@ -26,7 +25,7 @@ impl Report {
         self.lines.push(line);
     }
 
-    /// The line of a race; and where it is over its limit, that is kept in mind.
+    /// The line of a race; and where it does not keep a limit, that is kept in mind.
     pub fn race(&mut self, race: &Race) {
         let name = &race.name;
         let [library, plain, ideal] = race.times();
@@ -35,35 +34,31 @@ impl Report {
             "bench {name}: library {library:.2} us, plain {plain:.2} us, ideal {ideal:.2} us, \
              ratio {by_plain:.2}, {by_ideal:.2}"
         );
-        self.hold(0, name, by_plain, race.limit);
-        for (other, time, limit) in race.others() {
+        for (other, time) in race.others() {
             let ratio = library / time;
             line += &format!("; {other} {time:.2} us, ratio {ratio:.2}");
-            self.hold(1, name, ratio, limit);
         }
         self.say(line);
-    }
-
-    /// Keeps in mind what is over its limit.
-    fn hold(&mut self, kind: usize, name: &str, ratio: f64, limit: Option<f64>) {
-        if limit.is_some_and(|limit| ratio > limit) {
-            self.over[kind].push(format!("{name} ({ratio:.2})"));
+        if race.limited && by_ideal > BY_IDEAL {
+            self.over_ideal.push(format!("{name} ({by_ideal:.2})"));
+        }
+        if race.limited && by_plain >= BY_PLAIN {
+            self.over_plain.push(format!("{name} ({by_plain:.2})"));
         }
     }
 
     /// The lines on the limits.
     pub fn limits(&mut self) {
-        let [steps, recipes] = self.over.each_ref().map(|over| match over.join("; ") {
+        let [by_ideal, by_plain] = [&self.over_ideal, &self.over_plain].map(|over| match over.join("; ") {
             none if none.is_empty() => "held".to_string(),
             over => format!("not held by {over}"),
         });
+        let lines = "on every line of step, access and read";
         self.say(format!(
-            "bench limits: library at most {LIMIT:.2} plain for a step on dense, chain and random, \
-             {SMALL_LIMIT:.2} on small: {steps}"
+            "bench limits: library at most {BY_IDEAL:.2} ideal {lines}: {by_ideal}"
         ));
         self.say(format!(
-            "bench limits: library at most {RECIPE_LIMIT:.2} times one add for 16 adds on chain, random and small: \
-             {recipes}"
+            "bench limits: library below {BY_PLAIN:.2} plain {lines}: {by_plain}"
         ));
     }
 
@@ -76,9 +71,8 @@ impl Report {
             passes = PASSES,
             rounds = ROUNDS,
             round = ROUND.as_millis(),
-            limit = LIMIT,
-            small_limit = SMALL_LIMIT,
-            recipe_limit = RECIPE_LIMIT,
+            by_ideal = BY_IDEAL,
+            by_plain = BY_PLAIN,
             lines = self.lines.join("\n")
         );
         fs::write(DOCUMENT, text).expect("docs/BENCHMARKS.md can be written");

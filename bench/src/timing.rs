@@ -44,8 +44,8 @@ impl<'a> Runner<'a> {
 
 pub struct Race<'a> {
     pub name: String,
-    /// How many times the time of plain the library may take.
-    pub limit: Option<f64>,
+    /// Do the limits of the report hold for it?
+    pub limited: bool,
     /// Library, plain, ideal.
     runners: [Runner<'a>; 3],
     beside: Vec<Beside<'a>>,
@@ -54,15 +54,12 @@ pub struct Race<'a> {
 /// What else the library is set beside.
 struct Beside<'a> {
     name: &'static str,
-    /// How many times its time the library may take.
-    limit: Option<f64>,
     runner: Runner<'a>,
 }
 
 impl<'a> Race<'a> {
     pub fn new<A, B, C>(
         name: String,
-        limit: Option<f64>,
         library: impl FnMut() -> A + 'a,
         plain: impl FnMut() -> B + 'a,
         ideal: impl FnMut() -> C + 'a,
@@ -70,16 +67,22 @@ impl<'a> Race<'a> {
         let runners = [Runner::new(library), Runner::new(plain), Runner::new(ideal)];
         Race {
             name,
-            limit,
+            limited: false,
             runners,
             beside: Vec::new(),
         }
     }
 
+    /// The limits hold for it.
+    pub fn limited(mut self) -> Race<'a> {
+        self.limited = true;
+        self
+    }
+
     /// With another call on the line.
-    pub fn beside<T>(mut self, name: &'static str, limit: Option<f64>, call: impl FnMut() -> T + 'a) -> Race<'a> {
+    pub fn beside<T>(mut self, name: &'static str, call: impl FnMut() -> T + 'a) -> Race<'a> {
         let runner = Runner::new(call);
-        self.beside.push(Beside { name, limit, runner });
+        self.beside.push(Beside { name, runner });
         self
     }
 
@@ -94,11 +97,9 @@ impl<'a> Race<'a> {
         self.runners.each_ref().map(|runner| runner.least)
     }
 
-    /// The other calls on the line: the name, the least time, and the limit.
-    pub fn others(&self) -> impl Iterator<Item = (&str, f64, Option<f64>)> {
-        self.beside
-            .iter()
-            .map(|beside| (beside.name, beside.runner.least, beside.limit))
+    /// The other calls on the line: the name and the least time.
+    pub fn others(&self) -> impl Iterator<Item = (&str, f64)> {
+        self.beside.iter().map(|beside| (beside.name, beside.runner.least))
     }
 }
 

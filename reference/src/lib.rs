@@ -1,5 +1,5 @@
-//! The site access state machine of document 01, with points 1, 2, 4 and 7 of document 02, written a second time: sets
-//! of pairs instead of arrays of cells.
+//! The site access state machine of document 01, with points 1, 2, 4, 7 and 11 of document 02, written a second time:
+//! sets of pairs instead of rows of bits.
 //!
 //! Each module follows one section of document 01 or one point of document 02, and each function quotes the sentence that it stands
 //! for; it is document 01's where no other document is named. docs/READINGS.md says how open places of both documents are read.
@@ -10,6 +10,7 @@
 mod access;
 mod instructions;
 mod lending;
+mod old_record;
 mod program;
 mod question;
 mod recipes;
@@ -23,6 +24,7 @@ mod taking_back;
 
 pub use instructions::{run, step, step_record};
 pub use lending::{lending_guarantee, lending_guarantee_of_commands};
+pub use old_record::{eight_to_a_byte, from_old_record, to_old_record, OLD_RECORD_BYTES};
 pub use program::transcript;
 pub use question::{access, lowest_mark};
 pub use recipes::{counted, misformed, order_of_recipe_checks, recipe, recipe_instructions, recipe_record, run_commands};

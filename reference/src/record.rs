@@ -1,81 +1,100 @@
 //! "Each state has one record: places that hold nothing have one fixed content."
+//! Document 02, point 11: "Keep each relation as rows of bits, one row of 32 for each user, area or object".
 //!
-//! One byte a place, 1 for what is there and 0 for nothing.
+//! A row is four bytes, low byte first. A state is written as a set of places, each a bit of a byte, and read row by
+//! row.
 
 use crate::state::State;
 use std::collections::BTreeSet;
 
-/// Users 32, areas 32, objects 64, owners 1,024, definitions 2,048, structure 1,024, imports 2,048, exports 2,048.
-pub const RECORD_BYTES: usize = 32 + 32 + 64 + 1024 + 2048 + 1024 + 2048 + 2048;
+/// Users 4, areas 4, objects 8, owners 128, definitions 256, structure 128, imports 256, exports 256.
+pub const RECORD_BYTES: usize = 4 + 4 + 8 + 128 + 256 + 128 + 256 + 256;
 
-/// Areas are the second member of every pair, so a row of a relation has as many places as there are areas.
-const ROW: usize = State::AREAS as usize;
+/// The byte at which the rows of each list and each relation begin.
+const USERS: usize = 0;
+const AREAS: usize = 4;
+const OBJECTS: usize = 8;
+const OWNERS: usize = 16;
+const DEFINITIONS: usize = 144;
+const STRUCTURE: usize = 400;
+const IMPORTS: usize = 528;
+const EXPORTS: usize = 784;
+
+/// "one row of 32"
+const ROW: u8 = 32;
+const ROW_BYTES: usize = 4;
+
+/// What each bit of a byte adds to it, the lowest first.
+const WEIGHTS: [u8; 8] = [1, 2, 4, 8, 16, 32, 64, 128];
+
+/// A byte of the record, and which of its bits, 0 for the lowest.
+type Place = (usize, usize);
 
 /// The record of the state, whose numbers are in their ranges.
 pub fn to_record(state: &State) -> Vec<u8> {
-    let mut record = Vec::with_capacity(RECORD_BYTES);
-    put_list(&mut record, &state.users, 32);
-    put_list(&mut record, &state.areas, 32);
-    put_list(&mut record, &state.objects, 64);
-    put_pairs(&mut record, &state.owners, 32);
-    put_pairs(&mut record, &state.definitions, 64);
-    put_pairs(&mut record, &state.structure, 32);
-    put_pairs(&mut record, &state.imports, 64);
-    put_pairs(&mut record, &state.exports, 64);
+    let mut record = vec![0; RECORD_BYTES];
+    for (byte, bit) in places(state) {
+        record[byte] += WEIGHTS[bit];
+    }
     record
 }
 
-/// Appends the places of one list.
-fn put_list(record: &mut Vec<u8>, list: &BTreeSet<u8>, places: usize) {
-    let start = record.len();
-    record.resize(start + places, 0);
-    for &number in list {
-        record[start + usize::from(number)] = 1;
+/// The places of all that is listed and of all pairs, each once.
+fn places(state: &State) -> Vec<Place> {
+    let lists = [(USERS, &state.users), (AREAS, &state.areas), (OBJECTS, &state.objects)];
+    let relations = [
+        (OWNERS, &state.owners),
+        (DEFINITIONS, &state.definitions),
+        (STRUCTURE, &state.structure),
+        (IMPORTS, &state.imports),
+        (EXPORTS, &state.exports),
+    ];
+    let mut places = Vec::new();
+    for (start, list) in lists {
+        places.extend(list.iter().map(|number| place(start, number / ROW, number % ROW)));
     }
+    for (start, pairs) in relations {
+        places.extend(pairs.iter().map(|&(first, second)| place(start, first, second)));
+    }
+    places
 }
 
-/// Appends the places of one relation: the place of a pair is first * 32 + second.
-fn put_pairs(record: &mut Vec<u8>, pairs: &BTreeSet<(u8, u8)>, rows: usize) {
-    let start = record.len();
-    record.resize(start + rows * ROW, 0);
-    for &(first, second) in pairs {
-        record[start + usize::from(first) * ROW + usize::from(second)] = 1;
-    }
+/// Where a number below 32 stands in a row, counted from the byte at which the rows begin.
+fn place(start: usize, row: u8, number: u8) -> Place {
+    let [row, number] = [row, number].map(usize::from);
+    (start + row * ROW_BYTES + number / 8, number % 8)
 }
 
-/// The state of a record; `None` for another length than 8,320, or a byte other than 0 and 1.
+/// The state of a record; `None` for another length than 1,040. Every byte string of that length is a record.
 pub fn from_record(record: &[u8]) -> Option<State> {
-    if record.len() != RECORD_BYTES || record.iter().any(|&byte| byte > 1) {
+    if record.len() != RECORD_BYTES {
         return None;
     }
-    let mut rest = record;
     Some(State {
-        users: take_list(&mut rest, 32),
-        areas: take_list(&mut rest, 32),
-        objects: take_list(&mut rest, 64),
-        owners: take_pairs(&mut rest, 32),
-        definitions: take_pairs(&mut rest, 64),
-        structure: take_pairs(&mut rest, 32),
-        imports: take_pairs(&mut rest, 64),
-        exports: take_pairs(&mut rest, 64),
+        users: list(&record[USERS..AREAS]),
+        areas: list(&record[AREAS..OBJECTS]),
+        objects: list(&record[OBJECTS..OWNERS]),
+        owners: pairs(&record[OWNERS..DEFINITIONS]).collect(),
+        definitions: pairs(&record[DEFINITIONS..STRUCTURE]).collect(),
+        structure: pairs(&record[STRUCTURE..IMPORTS]).collect(),
+        imports: pairs(&record[IMPORTS..EXPORTS]).collect(),
+        exports: pairs(&record[EXPORTS..]).collect(),
     })
 }
 
-/// Takes the places of one list off the front.
-fn take_list(rest: &mut &[u8], places: usize) -> BTreeSet<u8> {
-    let (front, behind) = rest.split_at(places);
-    *rest = behind;
-    (0..=u8::MAX)
-        .zip(front)
-        .filter(|(_, &place)| place == 1)
-        .map(|(number, _)| number)
-        .collect()
+/// The numbers of a list: those of the second row go on from 32.
+fn list(rows: &[u8]) -> BTreeSet<u8> {
+    pairs(rows).map(|(row, number)| row * ROW + number).collect()
 }
 
-/// Takes the places of one relation off the front.
-fn take_pairs(rest: &mut &[u8], rows: usize) -> BTreeSet<(u8, u8)> {
-    let (front, behind) = rest.split_at(rows * ROW);
-    *rest = behind;
-    let places = front.iter().enumerate().filter(|(_, &byte)| byte == 1);
-    places.map(|(place, _)| ((place / ROW) as u8, (place % ROW) as u8)).collect()
+/// The pairs of a row and a number in it.
+fn pairs(rows: &[u8]) -> impl Iterator<Item = (u8, u8)> + '_ {
+    let rows = (0..=u8::MAX).zip(rows.chunks_exact(ROW_BYTES));
+    rows.flat_map(|(first, row)| numbers(row).map(move |second| (first, second)))
+}
+
+/// The numbers of a row: the binary digits of its first byte, lowest first, are for 0 to 7, those of the next for 8 on.
+fn numbers(row: &[u8]) -> impl Iterator<Item = u8> + '_ {
+    let digits = row.iter().flat_map(|byte| WEIGHTS.map(|weight| byte / weight % 2));
+    (0..ROW).zip(digits).filter(|&(_, digit)| digit == 1).map(|(number, _)| number)
 }

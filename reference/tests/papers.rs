@@ -1,4 +1,5 @@
-//! The examples of document 01, points 1, 2, 4 and 7 of document 02, and the readings 1 to 15 of docs/READINGS.md.
+//! The examples of document 01, points 1, 2, 4, 7 and 11 of document 02, and the readings 1 to 15 and 17 of
+//! docs/READINGS.md.
 
 use reference::*;
 use std::collections::{BTreeMap, BTreeSet};
@@ -99,19 +100,19 @@ fn founding_state_is_sound_and_user_0_owns_area_0() {
 }
 
 #[test]
-fn founding_record_has_three_places_set() {
-    let mut record = vec![0; 8320];
+fn founding_record_has_three_bits_set() {
+    let mut record = vec![0; 1040];
     record[0] = 1; // user 0
-    record[32] = 1; // area 0
-    record[32 + 32 + 64] = 1; // owner pair (0, 0)
-    assert_eq!(RECORD_BYTES, 8320);
+    record[4] = 1; // area 0
+    record[4 + 4 + 8] = 1; // owner pair (0, 0)
+    assert_eq!(RECORD_BYTES, 1040);
     assert_eq!(to_record(&State::founding()), record);
     assert_eq!(from_record(&record), Some(State::founding()));
 }
 
-#[test]
-fn record_places_are_in_the_order_of_the_relations() {
-    let last = State {
+/// User 31, area 31, object 63, and the last pair of each relation.
+fn last_of_all() -> State {
+    State {
         users: BTreeSet::from([31]),
         areas: BTreeSet::from([31]),
         objects: BTreeSet::from([63]),
@@ -120,40 +121,150 @@ fn record_places_are_in_the_order_of_the_relations() {
         structure: BTreeSet::from([(31, 31)]),
         imports: BTreeSet::from([(63, 31)]),
         exports: BTreeSet::from([(63, 31)]),
-    };
-    let mut record = vec![0; 8320];
-    for place in [31, 63, 127, 1151, 3199, 4223, 6271, 8319] {
-        record[place] = 1;
     }
-    assert_eq!(to_record(&last), record);
-    assert_eq!(from_record(&record).as_ref(), Some(&last));
-    assert!(!last.is_sound()); // area 31 imports what it defines; nothing else is wrong
+}
+
+#[test]
+fn last_of_all_is_unsound_by_its_own_import() {
+    let last = last_of_all();
+    assert!(!last.is_sound());
     let without_import = State {
         imports: BTreeSet::new(),
         ..last
     };
     assert!(without_import.is_sound());
+}
+
+#[test]
+fn point_11_rows_are_in_the_order_of_the_relations() {
+    let mut record = vec![0; 1040];
+    for byte in [3, 7, 15, 143, 399, 527, 783, 1039] {
+        record[byte] = 128;
+    }
+    assert_eq!(to_record(&last_of_all()), record);
+    assert_eq!(from_record(&record), Some(last_of_all()));
+}
+
+/// A row is four bytes, low byte first, and the lowest number is the lowest bit.
+#[test]
+fn point_11_places_by_hand() {
+    let state = State {
+        users: BTreeSet::from([7, 8]),
+        areas: BTreeSet::from([0, 17]),
+        objects: BTreeSet::from([31, 32, 33]),
+        owners: BTreeSet::from([(1, 9)]),
+        definitions: BTreeSet::from([(33, 30)]),
+        structure: BTreeSet::from([(3, 4), (4, 3)]),
+        imports: BTreeSet::from([(9, 2), (9, 10)]),
+        exports: BTreeSet::from([(62, 16)]),
+    };
+    let mut record = vec![0; 1040];
+    record[0] = 128; // user 7
+    record[1] = 1; // user 8
+    record[4] = 1; // area 0
+    record[6] = 2; // area 17
+    record[11] = 128; // object 31
+    record[12] = 1 + 2; // objects 32 and 33, in the second row
+    record[16 + 4 + 1] = 2; // user 1 owns area 9
+    record[144 + 33 * 4 + 3] = 64; // object 33 is defined in area 30
+    record[400 + 3 * 4] = 16; // area 3 lies in area 4
+    record[400 + 4 * 4] = 8; // area 4 lies in area 3
+    record[528 + 9 * 4] = 4; // area 2 imports object 9
+    record[528 + 9 * 4 + 1] = 4; // area 10 too
+    record[784 + 62 * 4 + 2] = 1; // area 16 exports object 62
+    assert_eq!(to_record(&state), record);
+    assert_eq!(from_record(&record), Some(state));
+}
+
+#[test]
+fn old_record_places_are_in_the_order_of_the_relations() {
+    let mut founding = vec![0; 8320];
+    founding[0] = 1; // user 0
+    founding[32] = 1; // area 0
+    founding[32 + 32 + 64] = 1; // owner pair (0, 0)
+    assert_eq!(OLD_RECORD_BYTES, 8320);
+    assert_eq!(to_old_record(&State::founding()), founding);
+    assert_eq!(from_old_record(&founding), Some(State::founding()));
+    let mut last = vec![0; 8320];
+    for place in [31, 63, 127, 1151, 3199, 4223, 6271, 8319] {
+        last[place] = 1;
+    }
+    assert_eq!(to_old_record(&last_of_all()), last);
+    assert_eq!(from_old_record(&last), Some(last_of_all()));
     let mut pair = vec![0; 8320];
     pair[4224 + 9 * 32 + 2] = 1; // import of object 9 by area 2
     pair[3200 + 3 * 32 + 4] = 1; // area 3 in area 4
-    let state = from_record(&pair).expect("a record of an unsound state");
+    let state = from_old_record(&pair).expect("an old record of an unsound state");
     assert_eq!(
         (state.imports, state.structure),
         (BTreeSet::from([(9, 2)]), BTreeSet::from([(3, 4)]))
     );
 }
 
+/// Asserts that both records stand for the state, and that the new one has the places of the old, eight to a byte.
+fn has_both_records(state: &State) {
+    let (old, new) = (to_old_record(state), to_record(state));
+    assert_eq!(from_old_record(&old).as_ref(), Some(state));
+    assert_eq!(from_record(&new).as_ref(), Some(state));
+    assert_eq!(eight_to_a_byte(&old), new);
+}
+
+/// Document 02, point 11: "old and new records stand for the same sound states one to one", here for one place each,
+/// for the small sound states, and for all places at once.
+#[test]
+fn point_11_old_and_new_records_stand_for_the_same_states() {
+    for place in 0..8320 {
+        let mut old = vec![0; 8320];
+        old[place] = 1;
+        has_both_records(&from_old_record(&old).expect("an old record"));
+    }
+    small_states().iter().for_each(has_both_records);
+    has_both_records(&everything());
+    assert_eq!(from_old_record(&[1; 8320]), from_record(&[255; 1040]));
+}
+
+#[test]
+fn point_11_eight_places_are_one_byte_lowest_first() {
+    assert_eq!(eight_to_a_byte(&[1, 0, 0, 0, 0, 0, 0, 0]), [1]);
+    assert_eq!(eight_to_a_byte(&[0, 1, 1, 0, 0, 0, 0, 1, 0, 0, 0, 1, 0, 0, 0, 0]), [2 + 4 + 128, 8]);
+}
+
+/// Every byte string of 1,040 bytes is the record of one state: reading and writing gives it again.
+#[test]
+fn point_11_every_byte_string_of_the_length_is_a_record() {
+    for round in 0..256 {
+        let record: Vec<u8> = (0..1040_usize).map(|byte| (byte * byte / 3 + byte * round + round) as u8).collect();
+        let state = from_record(&record).expect("a record");
+        assert_eq!(to_record(&state), record);
+        assert_eq!(step_record(&record, [0, 255, 255, 255]), Err(12));
+    }
+}
+
+/// Byte strings of other lengths, one of them the old record of the founding state.
+fn no_records() -> [Vec<u8>; 5] {
+    let record = to_record(&State::founding());
+    let longer = [record.clone(), vec![0]].concat();
+    let shorter = record[..1039].to_vec();
+    [vec![], shorter, longer, record.repeat(8), to_old_record(&State::founding())]
+}
+
 #[test]
 fn malformed_record_is_12() {
-    let record = to_record(&State::founding());
-    for bad in [&record[..8319], &[record.clone(), vec![0]].concat(), &[]] {
-        assert_eq!(from_record(bad), None);
-        assert_eq!(step_record(bad, [1, 0, 1, 0]), Err(12));
+    for bad in no_records() {
+        assert_eq!(from_record(&bad), None);
+        assert_eq!(step_record(&bad, [1, 0, 1, 0]), Err(12));
     }
-    let mut two = record;
+}
+
+#[test]
+fn malformed_old_record_is_none() {
+    let old = to_old_record(&State::founding());
+    for bad in [&old[..8319], &[old.clone(), vec![0]].concat(), &[], &to_record(&State::founding())] {
+        assert_eq!(from_old_record(bad), None);
+    }
+    let mut two = old;
     two[5000] = 2;
-    assert_eq!(from_record(&two), None);
-    assert_eq!(step_record(&two, [0, 255, 255, 255]), Err(12));
+    assert_eq!(from_old_record(&two), None);
 }
 
 #[test]
@@ -2778,10 +2889,7 @@ fn point_1_12_comes_before_14() {
 /// 12: "or is not the record its relations have", before 14 and with the bytes that were given.
 #[test]
 fn point_1_bytes_that_are_no_record() {
-    let record = to_record(&State::founding());
-    let mut two = record.clone();
-    two[5000] = 2;
-    for bad in [two, record[..8319].to_vec(), [record, vec![0]].concat(), vec![]] {
+    for bad in no_records() {
         for bytes in [&[][..], &[1, 2, 1, 0, 0], &[1, 0, 1, 0, 0], &[0; 5]] {
             let answer = RecipeAnswer { number: 12, place: 0 };
             assert_eq!(recipe_record(&bad, bytes, &call(0, [0; 4])), (answer, bad.clone()));

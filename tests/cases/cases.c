@@ -46,17 +46,14 @@ uint8_t *allocate(size_t length)
 void count(const uint8_t *state, unsigned counts[TABLES])
 {
     static const size_t starts[TABLES + 1] = {
-        USER_AT(0),         AREA_AT(0),      OBJECT_AT(0),    OWNER_AT(0, 0),          DEFINITION_AT(0, 0),
-        STRUCTURE_AT(0, 0), IMPORT_AT(0, 0), EXPORT_AT(0, 0), PANELRIGHTS_STATE_BYTES,
+        USER_AT(0),         AREA_AT(0),      OBJECT_AT(0),    OWNER_AT(0, 0), DEFINITION_AT(0, 0),
+        STRUCTURE_AT(0, 0), IMPORT_AT(0, 0), EXPORT_AT(0, 0), BITS,
     };
-    size_t table, place;
+    size_t table, bit;
 
     for (table = 0; table < TABLES; table++) {
         counts[table] = 0;
-        for (place = starts[table]; place < starts[table + 1]; place++) {
-            if (state[place] > 1)
-                fail("byte %lu of the record is %d", (unsigned long)place, state[place]);
-            counts[table] += state[place];
-        }
+        for (bit = starts[table]; bit < starts[table + 1]; bit++)
+            counts[table] += is_set(state, bit);
     }
 }

@@ -254,12 +254,12 @@ static int take_zigzag(const char *text, char *worked)
     return 1;
 }
 
-/* Writes 1 to a place of the record. */
-static void write_place(size_t place)
+/* Makes a bit of the record 1. */
+static void write_bit(size_t bit)
 {
-    if (site[place] != 0)
+    if (is_set(site, bit))
         fail("the record has this already");
-    site[place] = 1;
+    flip(site, bit);
     done.writes++;
 }
 
@@ -274,11 +274,11 @@ static int take_listing(const char *text, char *worked)
     if (strcmp(worked, text) != 0)
         return 0;
     if (strcmp(list, "user") == 0 && number < PANELRIGHTS_USERS)
-        write_place(USER_AT(number));
+        write_bit(USER_AT(number));
     else if (strcmp(list, "area") == 0 && number < PANELRIGHTS_AREAS)
-        write_place(AREA_AT(number));
+        write_bit(AREA_AT(number));
     else if (strcmp(list, "object") == 0 && number < PANELRIGHTS_OBJECTS)
-        write_place(OBJECT_AT(number));
+        write_bit(OBJECT_AT(number));
     else
         return 0;
     return 1;
@@ -294,12 +294,11 @@ static int take_pair(const char *text, char *worked)
         object >= PANELRIGHTS_OBJECTS || area >= PANELRIGHTS_AREAS)
         return 0;
     for (i = 0; i < sizeof words / sizeof *words; i++) {
-        const size_t places[] = {DEFINITION_AT(object, area), IMPORT_AT(object, area),
-                                 EXPORT_AT(object, area)};
+        const size_t bits[] = {DEFINITION_AT(object, area), IMPORT_AT(object, area), EXPORT_AT(object, area)};
 
         sprintf(worked, "the record: object %u %s area %u", object, words[i], area);
         if (strcmp(worked, text) == 0) {
-            write_place(places[i]);
+            write_bit(bits[i]);
             return 1;
         }
     }

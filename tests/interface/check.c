@@ -35,6 +35,25 @@ void found(struct guarded *site)
     CHECK_NUMBER(panelrights_founding(site->state, sizeof site->state), PANELRIGHTS_OK);
 }
 
+void with_other_lengths(void (*refuse)(uint8_t *state, size_t state_len))
+{
+    static const size_t lengths[] = {
+        0, 1, PANELRIGHTS_STATE_BYTES - 1, PANELRIGHTS_STATE_BYTES + 1, 8320, 65536 + PANELRIGHTS_STATE_BYTES,
+    };
+    static uint8_t memory[GUARD + 65536 + PANELRIGHTS_STATE_BYTES + GUARD], given[sizeof memory];
+    uint8_t *state = memory + GUARD;
+    size_t i;
+
+    for (i = 0; i < sizeof lengths / sizeof *lengths; i++) {
+        memset(memory, 0xa5, sizeof memory);
+        memset(state, 0, lengths[i]);
+        CHECK_NUMBER(panelrights_founding(state, PANELRIGHTS_STATE_BYTES), PANELRIGHTS_OK);
+        memcpy(given, memory, sizeof memory);
+        refuse(lengths[i] == 0 ? NULL : state, lengths[i]);
+        CHECK(memcmp(memory, given, sizeof memory) == 0);
+    }
+}
+
 void step(struct guarded *site, const uint8_t instruction[4], uint8_t refusal)
 {
     struct guarded given = *site;

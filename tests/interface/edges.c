@@ -30,7 +30,7 @@ static void use_record(uint8_t *state)
     CHECK_NUMBER(panelrights_access(state, PANELRIGHTS_STATE_BYTES, 31, 63), 0);
     CHECK_NUMBER(panelrights_step(state, PANELRIGHTS_STATE_BYTES, PANELRIGHTS_ADD_IMPORT, 0, 31, 63),
                  PANELRIGHTS_OWN_IMPORT);
-    state[IMPORT_AT(63, 31)] = 1;
+    SET(state, IMPORT_AT(63, 31));
     CHECK_NUMBER(panelrights_access(state, PANELRIGHTS_STATE_BYTES, 31, 63),
                  PANELRIGHTS_ACCESS_REFUSED + PANELRIGHTS_UNSOUND_STATE);
     CHECK_NUMBER(panelrights_read_file(good_file, sizeof good_file, state, PANELRIGHTS_STATE_BYTES),
@@ -38,7 +38,7 @@ static void use_record(uint8_t *state)
 }
 
 /* A record of another length is not looked at beyond it. */
-static void use_short_record(uint8_t *state, size_t length)
+static void use_other_length(uint8_t *state, size_t length)
 {
     CHECK_NUMBER(panelrights_founding(state, length), PANELRIGHTS_BUFFER_LENGTH);
     CHECK_NUMBER(panelrights_step(state, length, PANELRIGHTS_LIST_AREA, 0, 31, 0), PANELRIGHTS_UNSOUND_STATE);
@@ -107,8 +107,9 @@ void test_edges(void)
 
     use_record(begin);
     use_record(end - PANELRIGHTS_STATE_BYTES);
-    for (length = 0; length < PANELRIGHTS_STATE_BYTES; length += 65)
-        use_short_record(end - length, length);
+    for (length = 0; length <= 8320; length++)
+        if (length != PANELRIGHTS_STATE_BYTES)
+            use_other_length(end - length, length);
     use_recipe(end - PANELRIGHTS_STATE_BYTES, begin, 80);
     for (length = 0; length <= 100; length++)
         use_recipe(begin, end - length, length);

@@ -129,15 +129,11 @@ static void test_accepted(void)
     untouched = site;
     CHECK_NUMBER(panelrights_read_file(good_file, sizeof good_file, site.state, sizeof site.state),
                  PANELRIGHTS_OK);
-    expected[USER_AT(0)] = 1;
-    expected[AREA_AT(0)] = expected[AREA_AT(1)] = expected[AREA_AT(2)] = 1;
-    expected[OBJECT_AT(9)] = 1;
-    expected[OWNER_AT(0, 0)] = expected[OWNER_AT(0, 1)] =
-        expected[OWNER_AT(0, 2)] = 1;
-    expected[DEFINITION_AT(9, 1)] = 1;
-    expected[STRUCTURE_AT(0, 2)] = expected[STRUCTURE_AT(1, 2)] = 1;
-    expected[IMPORT_AT(9, 0)] = 1;
-    expected[EXPORT_AT(9, 1)] = 1;
+    SET(expected, USER_AT(0), AREA_AT(0), AREA_AT(1), AREA_AT(2), OBJECT_AT(9));
+    SET(expected, OWNER_AT(0, 0), OWNER_AT(0, 1), OWNER_AT(0, 2));
+    SET(expected, DEFINITION_AT(9, 1));
+    SET(expected, STRUCTURE_AT(0, 2), STRUCTURE_AT(1, 2));
+    SET(expected, IMPORT_AT(9, 0), EXPORT_AT(9, 1));
     CHECK(memcmp(site.state, expected, sizeof expected) == 0);
     CHECK(memcmp(site.before, untouched.before, GUARD) == 0);
     CHECK(memcmp(site.behind, untouched.behind, GUARD) == 0);

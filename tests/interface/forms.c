@@ -1,4 +1,5 @@
-/* What is no record and what is no recipe; fixed numbers, parameters, codes and activators of every value. */
+/* Records that are refused, and what is no recipe; fixed numbers, parameters, codes and activators of every
+ * value. */
 #include "tests.h"
 
 #include <string.h>
@@ -28,54 +29,43 @@ static void refuse_record(uint8_t *state, size_t state_len)
     }
 }
 
-/* A founding record between guards, with zeros behind it if the length is greater. */
-static void refuse_length(size_t length)
-{
-    static uint8_t memory[GUARD + 65536 + PANELRIGHTS_STATE_BYTES + GUARD], given[sizeof memory];
-    uint8_t *state = memory + GUARD;
-
-    memset(memory, 0xa5, sizeof memory);
-    memset(state, 0, length);
-    CHECK_NUMBER(panelrights_founding(state, PANELRIGHTS_STATE_BYTES), PANELRIGHTS_OK);
-    memcpy(given, memory, sizeof memory);
-    refuse_record(length == 0 ? NULL : state, length);
-    CHECK(memcmp(memory, given, sizeof memory) == 0);
-}
-
-/* One byte of the record changed; with a recipe, and with one that lacks its last byte. */
-static void refuse_byte(struct guarded site, size_t place, uint8_t byte)
+/* One bit of the record changed; with a recipe that lacks its last byte, and with the recipe. */
+static void try_bit(const struct guarded *record, size_t bit, int sound)
 {
     const struct recipe recipe = add_owners(0);
+    struct guarded site = *record, expected;
+    uint8_t user;
 
-    site.state[place] = byte;
-    CHECK_NUMBER(obey_bytes(&site, recipe.entries[0], 80, &by_0), 12);
-    CHECK_NUMBER(obey_bytes(&site, recipe.entries[0], 79, &by_0), 12);
+    flip(site.state, bit);
+    expected = site;
+    for (user = 16; sound && user < PANELRIGHTS_USERS; user++)
+        SET(expected.state, USER_AT(user), OWNER_AT(user, 0));
+    CHECK_NUMBER(obey_bytes(&site, recipe.entries[0], 79, &by_0), sound ? 14 : 12);
+    CHECK_NUMBER(obey_bytes(&site, recipe.entries[0], 80, &by_0), sound ? 0 : 12);
+    CHECK(memcmp(&site, &expected, sizeof site) == 0);
 }
 
-/* Records of another length, with a byte that is neither 0 nor 1, and two that are not sound: an area without
- * an owner, and an area that imports what it defines. */
-static void test_no_record(void)
+/*
+ * Records of another length. Then user 0, area 0 and object 9, which area 0 defines: of all the records that
+ * are one bit off, only those are sound in which area 0 lies in itself or exports the object. Last an import
+ * by the area that defines; an area without an owner besides; all bits.
+ */
+static void test_refused_records(void)
 {
     static const uint8_t define[4] = {PANELRIGHTS_DEFINE, 0, 0, 9};
     struct guarded site;
-    size_t place;
+    size_t bit;
 
-    refuse_length(0);
-    refuse_length(1);
-    refuse_length(PANELRIGHTS_STATE_BYTES - 1);
-    refuse_length(PANELRIGHTS_STATE_BYTES + 1);
-    refuse_length(65536 + PANELRIGHTS_STATE_BYTES);
+    with_other_lengths(refuse_record);
     found(&site);
     step(&site, define, PANELRIGHTS_OK);
-    for (place = 0; place < PANELRIGHTS_STATE_BYTES; place++) {
-        refuse_byte(site, place, 2);
-        refuse_byte(site, place, 255);
-    }
-    refuse_byte(site, AREA_AT(3), 1);
-    refuse_byte(site, IMPORT_AT(9, 0), 1);
-    site.state[IMPORT_AT(9, 0)] = 1;
+    for (bit = 0; bit < BITS; bit++)
+        try_bit(&site, bit, bit == STRUCTURE_AT(0, 0) || bit == EXPORT_AT(9, 0));
+    SET(site.state, IMPORT_AT(9, 0));
     refuse_record(site.state, sizeof site.state);
-    site.state[IMPORT_AT(9, 0)] = 2;
+    SET(site.state, AREA_AT(3));
+    refuse_record(site.state, sizeof site.state);
+    memset(site.state, 0xff, sizeof site.state);
     refuse_record(site.state, sizeof site.state);
 }
 
@@ -98,7 +88,7 @@ static void test_lengths(void)
         found(&site);
         memcpy(expected, site.state, sizeof expected);
         for (user = 1; fits && user <= length / 5; user++)
-            expected[USER_AT(user)] = expected[OWNER_AT(user, 0)] = 1;
+            SET(expected, USER_AT(user), OWNER_AT(user, 0));
         CHECK_NUMBER(obey_bytes(&site, bytes, length, &by_0),
                      fits ? PANELRIGHTS_OK : PANELRIGHTS_RECIPE_FORM);
         CHECK(memcmp(site.state, expected, sizeof expected) == 0);
@@ -225,7 +215,7 @@ static void test_parameters(void)
         const struct recipe list_area = {1, {{PANELRIGHTS_LIST_AREA, 1, a, 0, 0}}};
 
         expect(&listed, &list_area, &caller, 0, PANELRIGHTS_OK);
-        expected.state[AREA_AT(p[a])] = expected.state[OWNER_AT(0, p[a])] = 1;
+        SET(expected.state, AREA_AT(p[a]), OWNER_AT(0, p[a]));
         CHECK(memcmp(&listed, &expected, sizeof listed) == 0);
     }
     for (a = 0; a < 4; a++)
@@ -237,7 +227,7 @@ static void test_parameters(void)
 
                 site = expected = listed;
                 expect(&site, &define, &caller, 0, PANELRIGHTS_OK);
-                expected.state[OBJECT_AT(p[b])] = expected.state[DEFINITION_AT(p[b], p[a])] = 1;
+                SET(expected.state, OBJECT_AT(p[b]), DEFINITION_AT(p[b], p[a]));
                 CHECK(memcmp(&site, &expected, sizeof site) == 0);
             }
 }
@@ -340,7 +330,7 @@ static void test_activators(void)
 
 void test_forms(void)
 {
-    test_no_record();
+    test_refused_records();
     test_lengths();
     test_long();
     test_kinds();

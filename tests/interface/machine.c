@@ -42,14 +42,11 @@ static void test_session(void)
     CHECK_NUMBER(ask(&site, 2, 9), 1);
 
     run_session(&site, 12);
-    expected[USER_AT(0)] = expected[USER_AT(4)] = 1;
-    expected[AREA_AT(0)] = expected[AREA_AT(1)] = expected[AREA_AT(2)] = 1;
-    expected[OBJECT_AT(9)] = 1;
-    expected[OWNER_AT(0, 0)] = expected[OWNER_AT(0, 1)] = 1;
-    expected[OWNER_AT(0, 2)] = expected[OWNER_AT(4, 0)] = 1;
-    expected[DEFINITION_AT(9, 1)] = 1;
-    expected[STRUCTURE_AT(1, 2)] = 1;
-    expected[EXPORT_AT(9, 1)] = 1;
+    SET(expected, USER_AT(0), USER_AT(4));
+    SET(expected, AREA_AT(0), AREA_AT(1), AREA_AT(2));
+    SET(expected, OBJECT_AT(9));
+    SET(expected, OWNER_AT(0, 0), OWNER_AT(0, 1), OWNER_AT(0, 2), OWNER_AT(4, 0));
+    SET(expected, DEFINITION_AT(9, 1), STRUCTURE_AT(1, 2), EXPORT_AT(9, 1));
     CHECK(memcmp(site.state, expected, sizeof expected) == 0);
     CHECK_NUMBER(ask(&site, 0, 9), PANELRIGHTS_NO_ACCESS);
 }
@@ -109,7 +106,7 @@ static void test_refusals(void)
     step(&site, session[8].instruction, PANELRIGHTS_WOULD_LOSE_ACCESS);
     /* Area 3 listed, no owner. */
     found(&site);
-    site.state[AREA_AT(3)] = 1;
+    SET(site.state, AREA_AT(3));
     step(&site, list_area, PANELRIGHTS_UNSOUND_STATE);
 }
 
@@ -194,7 +191,7 @@ static void test_access(void)
     run_session(&site, 8);
     ask_edges(&site, 1);
     CHECK_NUMBER(panelrights_access(site.state, sizeof site.state - 1, 256, 9), 256 + 12);
-    site.state[AREA_AT(3)] = 1;
+    SET(site.state, AREA_AT(3));
     ask_edges(&site, 0);
 }
 
@@ -242,9 +239,9 @@ static void test_most_steps(void)
     CHECK_NUMBER(ask(&site, 9, 9), PANELRIGHTS_MOST_STEPS);
     /* An import by 8 steps that is written into the record, and one by 9. */
     make_row(&site);
-    site.state[IMPORT_AT(9, 8)] = 1;
+    SET(site.state, IMPORT_AT(9, 8));
     CHECK_NUMBER(ask(&site, 8, 9), PANELRIGHTS_MOST_STEPS);
-    site.state[IMPORT_AT(9, 9)] = 1;
+    SET(site.state, IMPORT_AT(9, 9));
     CHECK_NUMBER(ask(&site, 8, 9), PANELRIGHTS_ACCESS_REFUSED + PANELRIGHTS_UNSOUND_STATE);
 }
 
@@ -262,7 +259,7 @@ static void refuse_own_import(uint8_t area, uint8_t object)
     step(&site, define, PANELRIGHTS_OK);
     step(&site, add_import, PANELRIGHTS_OWN_IMPORT);
     step(&site, remove_import, PANELRIGHTS_NOT_THERE);
-    site.state[IMPORT_AT(object, area)] = 1;
+    SET(site.state, IMPORT_AT(object, area));
     step(&site, add_import, PANELRIGHTS_UNSOUND_STATE);
     step(&site, remove_import, PANELRIGHTS_UNSOUND_STATE);
     CHECK_NUMBER(ask(&site, area, object), PANELRIGHTS_ACCESS_REFUSED + PANELRIGHTS_UNSOUND_STATE);
@@ -281,7 +278,7 @@ static void test_own_imports(void)
         for (object = 0; object < PANELRIGHTS_OBJECTS; object++)
             refuse_own_import(area, object);
     run_session(&site, 8);
-    site.state[IMPORT_AT(9, 1)] = 1;
+    SET(site.state, IMPORT_AT(9, 1));
     given = site;
     for (code = 0; code <= 13; code++) {
         const uint8_t instruction[4] = {code, 0, 1, 9};
@@ -290,7 +287,7 @@ static void test_own_imports(void)
     }
     ask_edges(&site, 0);
     CHECK(memcmp(&site, &given, sizeof site) == 0);
-    site.state[IMPORT_AT(9, 1)] = 0;
+    flip(site.state, IMPORT_AT(9, 1));
     ask_edges(&site, 1);
 }
 

@@ -22,6 +22,7 @@ int main(void)
     test_forms();
     test_agreement();
     test_records();
+    test_reading();
     test_files();
     test_marks();
     test_edges();

@@ -24,19 +24,19 @@ static const struct recipe school = {
 
 static const struct caller first_school = {0, {1, 2, 4, 9}};
 
-/* The founding state and a school, each place by hand. */
+/* The founding state and a school, each bit by hand. */
 static void write_school(uint8_t state[PANELRIGHTS_STATE_BYTES], const struct caller *caller)
 {
     const uint8_t *p = caller->parameters;
 
     memset(state, 0, PANELRIGHTS_STATE_BYTES);
-    state[USER_AT(0)] = state[AREA_AT(0)] = state[OWNER_AT(0, 0)] = 1;
-    state[AREA_AT(p[0])] = state[OWNER_AT(0, p[0])] = 1;
-    state[AREA_AT(p[1])] = state[OWNER_AT(0, p[1])] = 1;
-    state[STRUCTURE_AT(p[1], p[0])] = state[STRUCTURE_AT(p[0], 0)] = 1;
-    state[OBJECT_AT(p[3])] = state[DEFINITION_AT(p[3], p[0])] = 1;
-    state[IMPORT_AT(p[3], p[1])] = state[EXPORT_AT(p[3], p[0])] = 1;
-    state[USER_AT(p[2])] = state[OWNER_AT(p[2], p[0])] = state[OWNER_AT(p[2], p[1])] = 1;
+    SET(state, USER_AT(0), AREA_AT(0), OWNER_AT(0, 0));
+    SET(state, AREA_AT(p[0]), OWNER_AT(0, p[0]));
+    SET(state, AREA_AT(p[1]), OWNER_AT(0, p[1]));
+    SET(state, STRUCTURE_AT(p[1], p[0]), STRUCTURE_AT(p[0], 0));
+    SET(state, OBJECT_AT(p[3]), DEFINITION_AT(p[3], p[0]));
+    SET(state, IMPORT_AT(p[3], p[1]), EXPORT_AT(p[3], p[0]));
+    SET(state, USER_AT(p[2]), OWNER_AT(p[2], p[0]), OWNER_AT(p[2], p[1]));
 }
 
 /* From the founding state: the record by hand, and the one that nine instructions give. */
@@ -95,6 +95,17 @@ static struct recipe removes_of(const struct recipe *adds)
     return removes;
 }
 
+/* The bits that recipes have changed in the founding state. */
+static uint8_t changed[PANELRIGHTS_STATE_BYTES];
+
+static void note_changed(const uint8_t *founding, const uint8_t *state)
+{
+    size_t i;
+
+    for (i = 0; i < sizeof changed; i++)
+        changed[i] |= founding[i] ^ state[i];
+}
+
 /* From the founding state, the adds and then the removes; each time an unknown code at the end stops them
  * first. */
 static void add_and_remove(const struct recipe *adds, const struct caller *caller,
@@ -111,16 +122,13 @@ static void add_and_remove(const struct recipe *adds, const struct caller *calle
     expect(&site, &stopped_adds, caller, last, PANELRIGHTS_UNKNOWN_CODE);
     expect(&site, adds, caller, 0, PANELRIGHTS_OK);
     CHECK(memcmp(site.state, added, PANELRIGHTS_STATE_BYTES) == 0);
+    note_changed(founding.state, added);
     expect(&site, &stopped_removes, caller, last, PANELRIGHTS_UNKNOWN_CODE);
     expect(&site, &removes, caller, 0, PANELRIGHTS_OK);
     CHECK(memcmp(&site, &founding, sizeof site) == 0);
 }
 
-/*
- * All tables in all schools. Each pair of areas above 0 comes too, and each user with each of these areas.
- * With the two tests below, each byte of the record changes in a recipe that is accepted and in one that is
- * refused.
- */
+/* All tables in all schools. Each pair of areas above 0 comes too, and each user with each of these areas. */
 static void test_every_school(void)
 {
     uint8_t expected[PANELRIGHTS_STATE_BYTES];
@@ -162,14 +170,13 @@ static void test_area_0(void)
         const struct caller caller = {0, {outer, own, owner, lent}};
         uint8_t expected[PANELRIGHTS_STATE_BYTES] = {0};
 
-        expected[USER_AT(0)] = expected[AREA_AT(0)] = expected[OWNER_AT(0, 0)] = 1;
-        expected[AREA_AT(outer)] = expected[OWNER_AT(0, outer)] = 1;
-        expected[STRUCTURE_AT(0, outer)] = expected[STRUCTURE_AT(0, 0)] = 1;
-        expected[STRUCTURE_AT(outer, outer)] = 1;
-        expected[OBJECT_AT(lent)] = expected[DEFINITION_AT(lent, outer)] = 1;
-        expected[IMPORT_AT(lent, 0)] = expected[EXPORT_AT(lent, 0)] = 1;
-        expected[OBJECT_AT(own)] = expected[DEFINITION_AT(own, 0)] = 1;
-        expected[USER_AT(owner)] = expected[OWNER_AT(owner, 0)] = 1;
+        SET(expected, USER_AT(0), AREA_AT(0), OWNER_AT(0, 0));
+        SET(expected, AREA_AT(outer), OWNER_AT(0, outer));
+        SET(expected, STRUCTURE_AT(0, outer), STRUCTURE_AT(0, 0), STRUCTURE_AT(outer, outer));
+        SET(expected, OBJECT_AT(lent), DEFINITION_AT(lent, outer));
+        SET(expected, IMPORT_AT(lent, 0), EXPORT_AT(lent, 0));
+        SET(expected, OBJECT_AT(own), DEFINITION_AT(own, 0));
+        SET(expected, USER_AT(owner), OWNER_AT(owner, 0));
         add_and_remove(&of_area_0, &caller, expected);
     }
 }
@@ -189,15 +196,29 @@ static void test_founding_left(void)
         const uint8_t user = 1 - i, area = i;
         uint8_t expected[PANELRIGHTS_STATE_BYTES] = {0};
         struct recipe recipe = recipes[i];
-        struct guarded site;
+        struct guarded site, founding;
 
         found(&site);
+        founding = site;
         expect(&site, &recipe, &by_0, 3, refusals[i]);
         recipe.count = 2;
         expect(&site, &recipe, &by_0, 0, PANELRIGHTS_OK);
-        expected[USER_AT(user)] = expected[AREA_AT(area)] = expected[OWNER_AT(user, area)] = 1;
+        SET(expected, USER_AT(user), AREA_AT(area), OWNER_AT(user, area));
         CHECK(memcmp(site.state, expected, sizeof expected) == 0);
+        note_changed(founding.state, expected);
     }
+}
+
+/* In these three tests each bit changes in a recipe that is accepted, and would in one that is refused. */
+static void test_every_bit(void)
+{
+    size_t i;
+
+    test_every_school();
+    test_area_0();
+    test_founding_left();
+    for (i = 0; i < sizeof changed; i++)
+        CHECK_NUMBER(changed[i], 0xff);
 }
 
 /*
@@ -353,9 +374,7 @@ void test_recipes(void)
 {
     test_school();
     test_school_refused();
-    test_every_school();
-    test_area_0();
-    test_founding_left();
+    test_every_bit();
     test_every_place();
     test_unlisted();
     test_taken_back();

@@ -9,7 +9,7 @@
 #include <stdio.h>
 #include <string.h>
 
-enum { STACK = 1 << 20, FILLING = 0x5a, STATED = 64 * 1024 };
+enum { STACK = 1 << 20, FILLING = 0x5a, STATED = 16 * 1024 };
 
 static uint8_t stack[STACK] __attribute__((aligned(4096)));
 static uint8_t state[PANELRIGHTS_STATE_BYTES];

@@ -14,15 +14,38 @@ void check_number(unsigned long got, unsigned long expected, const char *what, c
 /* How many checks there were so far. */
 unsigned long checks(void);
 
-/* Where a place of a record is, by the header's table. */
-#define USER_AT(user) (user)
-#define AREA_AT(area) (32 + (area))
-#define OBJECT_AT(object) (64 + (object))
-#define OWNER_AT(user, area) (128 + (user)*32 + (area))
-#define DEFINITION_AT(object, area) (1152 + (object)*32 + (area))
-#define STRUCTURE_AT(inner, outer) (3200 + (inner)*32 + (outer))
-#define IMPORT_AT(object, area) (4224 + (object)*32 + (area))
-#define EXPORT_AT(object, area) (6272 + (object)*32 + (area))
+/* Which bit of a record a number or a pair is, by the header's table: bit 0 is the lowest of byte 0, bit 8
+ * that of byte 1. Before version 3 it was the byte of this number. */
+enum { BITS = 8 * PANELRIGHTS_STATE_BYTES };
+#define USER_AT(user) (8 * 0 + (user))
+#define AREA_AT(area) (8 * 4 + (area))
+#define OBJECT_AT(object) (8 * 8 + (object))
+#define OWNER_AT(user, area) (8 * 16 + (user)*32 + (area))
+#define DEFINITION_AT(object, area) (8 * 144 + (object)*32 + (area))
+#define STRUCTURE_AT(inner, outer) (8 * 400 + (inner)*32 + (outer))
+#define IMPORT_AT(object, area) (8 * 528 + (object)*32 + (area))
+#define EXPORT_AT(object, area) (8 * 784 + (object)*32 + (area))
+
+static inline int is_set(const uint8_t *state, size_t bit)
+{
+    return (state[bit / 8] & 1 << bit % 8) != 0;
+}
+
+static inline void flip(uint8_t *state, size_t bit)
+{
+    state[bit / 8] ^= (uint8_t)(1 << bit % 8);
+}
+
+static inline void set_bits(uint8_t *state, const size_t *bits, size_t count)
+{
+    while (count-- > 0)
+        if (!is_set(state, bits[count]))
+            flip(state, bits[count]);
+}
+
+/* Makes the bits 1: SET(state, AREA_AT(3), OWNER_AT(0, 3)). */
+#define SET(state, ...)                                                                                      \
+    set_bits((state), (const size_t[]){__VA_ARGS__}, sizeof((const size_t[]){__VA_ARGS__}) / sizeof(size_t))
 
 /* A record with the bytes before and behind it, which no call may write. */
 enum { GUARD = 64 };
@@ -34,6 +57,10 @@ struct guarded {
 
 /* The founding state between guards. */
 void found(struct guarded *site);
+
+/* Hands a founding record over as of each of some other lengths, that of records before version 3 among them,
+ * and of length 0 as NULL. Checks that no byte of it changes, and none before or behind it. */
+void with_other_lengths(void (*refuse)(uint8_t *state, size_t state_len));
 
 /* Obeys the instruction, checks the answer and, if it is not 0, that no byte is changed; the guards in any
  * case. */
@@ -76,6 +103,7 @@ void test_recipes(void);
 void test_forms(void);
 void test_agreement(void);
 void test_records(void);
+void test_reading(void);
 void test_files(void);
 void test_edges(void);
 

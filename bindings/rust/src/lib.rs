@@ -36,7 +36,7 @@
 //! which instruction, and why.
 //!
 //! `make lib` in the repository builds the static library. The environment variable `PANELRIGHTS_LIB_DIR` names another folder to
-//! link it from. A call takes less than 64 KiB of stack.
+//! link it from. A call takes less than 16 KiB of stack.
 
 #![warn(missing_docs)]
 

@@ -90,7 +90,7 @@ refusals! {
     WouldLoseAccess = 11: "An area that imports or exports a table would lose its access to it: no way of at most 8 steps would be \
         left. Take back its export and its import of the table first, beginning with the area that is the most steps away; \
         or first lay another way of at most 8 steps.";
-    /// The bytes are no record, or the record's state is not sound.
+    /// The record's state is not sound; over the C interface also a record of another length.
     UnsoundState = 12: "The record of the site is damaged, so nothing is decided on it. Go back to the site file or to the last \
         good copy.";
     /// The bytes are no recipe: a length that is not a multiple of 5 from 5 to 80, a kind above 1, or a parameter above

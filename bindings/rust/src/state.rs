@@ -16,7 +16,8 @@ pub const OBJECTS: u8 = 64;
 /// Across how many steps an object may be lent: a longer chain is no access.
 pub const MOST_STEPS: u8 = 8;
 
-/// A part of the record: where it begins, and how many firsts and seconds its pairs can have. A list is a part with one second.
+/// A part of the record: the byte where it begins, and how many firsts and seconds its pairs can have. Its bits stand by
+/// first and then by second, eight a byte from the lowest on. A list is a part with one second.
 struct Part {
     start: usize,
     firsts: u8,
@@ -35,19 +36,20 @@ impl Part {
 }
 
 const USER_LIST: Part = Part::list(0, USERS);
-const AREA_LIST: Part = Part::list(32, AREAS);
-const OBJECT_LIST: Part = Part::list(64, OBJECTS);
-const OWNERS: Part = Part::relation(128, USERS);
-const DEFINITIONS: Part = Part::relation(1152, OBJECTS);
-const STRUCTURE: Part = Part::relation(3200, AREAS);
-const IMPORTS: Part = Part::relation(4224, OBJECTS);
-const EXPORTS: Part = Part::relation(6272, OBJECTS);
+const AREA_LIST: Part = Part::list(4, AREAS);
+const OBJECT_LIST: Part = Part::list(8, OBJECTS);
+const OWNERS: Part = Part::relation(16, USERS);
+const DEFINITIONS: Part = Part::relation(144, OBJECTS);
+const STRUCTURE: Part = Part::relation(400, AREAS);
+const IMPORTS: Part = Part::relation(528, OBJECTS);
+const EXPORTS: Part = Part::relation(784, OBJECTS);
 
 /// A sound state of a site: the founding one, that of a site file, that of a record, or what steps and recipes made of
 /// one of these. A state that is not sound can't be had, so 12 never comes from [`step`](State::step),
 /// [`recipe`](State::recipe) or [`access`](State::access).
 ///
-/// It is 8,320 bytes on the heap; equal states have equal bytes.
+/// It is a record of 1,040 bytes on the heap, and so is each clone that is kept for undo (8,320 before version 3). Equal
+/// states have equal records, and different states different ones.
 ///
 /// ```
 /// use panelrights::{Kind, Refusal, State};
@@ -85,9 +87,10 @@ impl State {
         State { record }
     }
 
-    /// The state of a record that was kept in memory; on a disk keep site files, since a later version of the library may have
-    /// other records. Any bytes may be given: [`Refusal::BufferLength`] for another length than 8,320,
-    /// [`Refusal::UnsoundState`] for bytes that are no record or whose state is not sound.
+    /// The state of a record that was kept in memory; on a disk keep site files, since a later version of the library
+    /// may have other records. Any 1,040 bytes are a record, and its state is given if it is sound; else it is
+    /// [`Refusal::UnsoundState`]. Bytes of another length, as the records of version 2 have, are
+    /// [`Refusal::BufferLength`].
     pub fn from_record(bytes: &[u8]) -> Result<State, Refusal> {
         let record: &[u8; sys::STATE_BYTES] = bytes.try_into().map_err(|_| Refusal::BufferLength)?;
         let state = State { record: Box::new(*record) };
@@ -266,8 +269,8 @@ impl State {
     }
 
     fn holds(&self, part: &Part, first: u8, second: u8) -> bool {
-        let at = part.start + usize::from(first) * usize::from(part.seconds) + usize::from(second);
-        first < part.firsts && second < part.seconds && self.record[at] == 1
+        let bit = usize::from(first) * usize::from(part.seconds) + usize::from(second);
+        first < part.firsts && second < part.seconds && self.record[part.start + bit / 8] >> (bit % 8) & 1 == 1
     }
 
     fn listed<'a>(&'a self, list: &'a Part) -> impl Iterator<Item = u8> + 'a {
@@ -280,7 +283,7 @@ impl State {
     }
 }
 
-/// The lists and the pairs, and not 8,320 numbers.
+/// The lists and the pairs, and not 1,040 numbers.
 impl fmt::Debug for State {
     fn fmt(&self, out: &mut fmt::Formatter) -> fmt::Result {
         out.debug_struct("State")

@@ -6,7 +6,7 @@
 //! any numbers and any length have an answer.
 
 /// How many bytes the record of a state has: what [`panelrights_state_bytes`] answers.
-pub const STATE_BYTES: usize = 8320;
+pub const STATE_BYTES: usize = 1040;
 /// How many bytes each instruction of a recipe has.
 pub const RECIPE_ENTRY_BYTES: usize = 5;
 /// How many instructions a recipe may have.

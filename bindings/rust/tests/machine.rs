@@ -1,6 +1,9 @@
 //! The session of document 01, its examples of refused instructions, chains of 8 steps and of 9, imports by the area
 //! that defines, and adds that are taken back.
 
+mod common;
+
+use common::{changed, EXPORTS, IMPORTS};
 use panelrights::{Instruction, Kind, Refusal, State};
 
 /// Obeys the instructions, all of which must be accepted.
@@ -220,11 +223,7 @@ fn removals_with_a_way_round_of_8_steps_and_of_9() {
 /// An import that is written into a kept record.
 #[test]
 fn records_with_an_import_by_8_steps_and_by_9() {
-    let written = |area: usize| {
-        let mut record = row().as_record().to_vec();
-        record[4224 + 63 * 32 + area] = 1;
-        State::from_record(&record)
-    };
+    let written = |area| State::from_record(&changed(row().as_record(), &[(IMPORTS, 63, area)]));
     assert_eq!(written(8).unwrap().access(8, 63), Ok(Some(8)));
     assert_eq!(written(9), Err(Refusal::UnsoundState));
 }
@@ -252,13 +251,9 @@ fn records_with_an_entry_of_the_area_that_defines() {
     for (area, object) in [(0, 0), (0, 63), (31, 0), (31, 63), (5, 9)] {
         let define = [7, 0, area, object];
         let state = if area == 0 { after(&[define]) } else { after(&[[1, 0, area, 0], define]) };
-        let written = |start: usize| {
-            let mut record = state.as_record().to_vec();
-            record[start + usize::from(object) * 32 + usize::from(area)] = 1;
-            State::from_record(&record)
-        };
-        assert_eq!(written(4224), Err(Refusal::UnsoundState), "{area} imports {object}");
-        assert!(written(6272).unwrap().exports(object, area), "{area} exports {object}");
+        let written = |part| State::from_record(&changed(state.as_record(), &[(part, object, area)]));
+        assert_eq!(written(IMPORTS), Err(Refusal::UnsoundState), "{area} imports {object}");
+        assert!(written(EXPORTS).unwrap().exports(object, area), "{area} exports {object}");
     }
 }
 

@@ -1,6 +1,9 @@
 //! Recipes (document 02, point 1): the opening of a school, each place and each number, the bytes of a recipe, and
 //! recipes against their instructions one by one.
 
+mod common;
+
+use common::{changed, AREA_LIST};
 use panelrights::Operand::{self, Fixed, P0, P1, P2, P3};
 use panelrights::{sys, Instruction, Kind, Recipe, RecipeLength, RecipeRefused, Refusal, State};
 use std::collections::BTreeSet;
@@ -377,7 +380,7 @@ fn the_answers_of_the_c_interface() {
     assert_eq!(answer(record, &[1, 0, 1, 0, 0].repeat(17), 0, [0; 4]), (14, false));
     assert_eq!(answer(&record[1..], OPENING.as_bytes(), 0, [1, 2, 4, 9]), (12, false));
     assert_eq!(answer(&[], &[], 0, [0; 4]), (12, false));
-    let damaged = [record[..35].to_vec(), vec![1], record[36..].to_vec()].concat();
+    let damaged = changed(record, &[(AREA_LIST, 0, 3)]);
     assert_eq!(answer(&damaged, &[], 0, [0; 4]), (12, false), "area 3 listed, no owner");
 }
 

@@ -1,25 +1,21 @@
 -- The claims of specs/Claims.antt and the laws of specs/Laws.antt, each proved under its name.
 -- Assumes nothing.
 use Prim.Native.Nat.{ℕ, zero, suc, _≤_, _<_, zero-le}
-use mathlib.Core.Path.{_≡_, refl, sym, ap, subst, fun-ext, _∙_}
+use mathlib.Core.Path.{_≡_, refl, sym, ap, subst, _∙_}
 use mathlib.Core.Logic.{_⊎_, inl, inr}
-use mathlib.Core.Bool.{Bool, true, false, _&&_, _||_, not, cond}
+use mathlib.Core.Bool.{Bool, true, false, _&&_, not, cond}
 use native.Mathlib.Omega.{arith}
 use native.Mathlib.Decide.{decLt}
 use native.Mathlib.Nat.{le-antisymm}
 use borrow.Author.Tests.{ne-eqb}
 use lib.Dec.{T, eqb}
 use lib.ListN.{getD, List·getD-eq-default}
-use Rattle.state.specs.Cells.{Pairs, pair}
-use Rattle.rows.specs.Rows.{row, transpose}
-use Rattle.rows.proofs.Laws.{row-reads, transpose-reads}
 use Rattle.state.specs.Site.{area, object, limit, owner, definition, structure, import, export, related, withPair}
 use Rattle.state.specs.Site.{Site}
 use Rattle.state.proofs.Bools.{or-left, or-right, or-cases, and-both, and-left, and-right, is-true, is-false, fails, holds}
-use Rattle.state.proofs.Tabulate.{length-tabulate, getD-tabulate, same-table}
+use Rattle.state.proofs.Tabulate.{length-tabulate, getD-tabulate}
 use Rattle.state.proofs.Laws.{related-other, related-outside, add-keeps-pairs, remove-adds-none}
-use Rattle.access.specs.Lending.{Lending, step, lending, lendingOf}
-use Rattle.access.specs.Rounds.{moveBy}
+use Rattle.access.specs.Lending.{Lending, step, lending}
 use Rattle.access.specs.Chain.{Chain, here, onward, ObjectChain}
 use Rattle.access.specs.Answer.{longest, has, reached, answerWithin, nextAnswer, answer, access, unreached}
 use Rattle.access.specs.Answer.{answerNumber, countsWithin, leastCounts, leastCount}
@@ -223,36 +219,12 @@ unfolding answer
 equal-answers l k there back a =
     same-within (l .definedIn) (k .definedIn) (step l) (step k) longest a (λ m. chain-included l k there m a) (λ m. chain-included k l back m a)
 
--- ---- rows, and the structure transposed
--- a row is the relation's test
-row-test : (c : Pairs) (o : ℕ) → has (row c o) ≡ pair c o
-row-test c o = fun-ext (row-reads c o)
-
-transpose-step : (ds st im ex : Pairs) (o s r : ℕ) → s < limit area → r < limit area
-    → moveBy st (transpose st) (pair im o) (pair ex o) s r ≡ step (lendingOf ds st im ex o) s r
-unfolding moveBy step
-transpose-step ds st im ex o s r hs hr = ap (λ (b : Bool). (pair ex o s && pair st s r) || (pair im o r && b)) (transpose-reads st s r hs hr)
-
-counts-of-transpose : (ds st im ex : Pairs) (o : ℕ) → countsWithin (pair ds o) (moveBy st (transpose st) (pair im o) (pair ex o)) longest ≡ leastCounts (lendingOf ds st im ex o)
-unfolding countsWithin leastCounts
-counts-of-transpose ds st im ex o =
-    same-table _ _ 0 (limit area)
-    (λ a h. ap answerNumber
-    (same-within start start move (step l) longest a
-    (λ m. chain-by start start move (step l) (λ b hb t. t) (λ s r hs hr t. subst T (transpose-step ds st im ex o s r hs hr) t))
-    (λ m. chain-by start start (step l) move (λ b hb t. t) (λ s r hs hr t. subst T (sym (transpose-step ds st im ex o s r hs hr)) t))))
-  where
-    start : ℕ → Bool
-    start = pair ds o
-
-    move : ℕ → ℕ → Bool
-    move = moveBy st (transpose st) (pair im o) (pair ex o)
-
-    l : Lending
-    l = lendingOf ds st im ex o
-
-pub counts-of-rows : Laws.CountsOfRows
-counts-of-rows ds st im ex o = rw (row-test ds o, row-test im o, row-test ex o) (counts-of-transpose ds st im ex o)
+-- ---- equal starts and moves
+pub same-moves : Laws.SameMoves
+same-moves start start′ move move′ es em n a =
+    same-within start start′ move move′ n a
+    (λ m. chain-by start start′ move move′ (λ b h t. subst T (es b h) t) (λ s r hs hr t. subst T (em s r hs hr) t))
+    (λ m. chain-by start′ start move′ move (λ b h t. subst T (sym (es b h)) t) (λ s r hs hr t. subst T (sym (em s r hs hr)) t))
 
 -- ---- of a state
 pub access-is-object : Laws.AccessIsObject

@@ -1,5 +1,4 @@
--- Laws has the claims and laws of specs/, for the layers above; the others are this crate's own.
-mod Reach
-mod Saturate
-mod Search
+-- Laws has the claims and laws of specs/, for the layers above. Reach and Saturate have what the areas within n steps are, for the search.
+pub mod Reach
+pub mod Saturate
 pub mod Laws

@@ -7,16 +7,12 @@ use mathlib.Core.Logic.{_⊎_}
 use mathlib.Core.Bool.{Bool, true, false, not}
 use lib.Dec.{T, eqb}
 use lib.ListN.{getD}
-use Rattle.state.specs.Cells.{Pairs}
-use Rattle.rows.specs.Rows.{row, transpose}
 use Rattle.state.specs.Site.{area, object, limit, Kind, withListed, Relation, owner, firstKind, withPair, Shaped}
 use Rattle.state.specs.Site.{Site}
-use Rattle.access.specs.Lending.{Lending, lending, lendingOf}
+use Rattle.access.specs.Lending.{Lending, lending}
 use Rattle.access.specs.Chain.{Chain}
-use Rattle.access.specs.Answer.{longest, has, answerWithin, answer, access, unreached, answerNumber}
-use Rattle.access.specs.Answer.{countsWithin, leastCounts, leastCount}
+use Rattle.access.specs.Answer.{answerWithin, answer, access, unreached, answerNumber, leastCounts, leastCount}
 use Rattle.access.specs.Claims.{RightWithin}
-use Rattle.access.specs.Rounds.{moveBy}
 
 -- ---- chains and answers within a number of steps
 abbrev pub AnswerWithinIsRight : Type 0
@@ -28,6 +24,13 @@ abbrev pub ShortChains : Type 0
 ShortChains =
     (start : ℕ → Bool) (move : ℕ → ℕ → Bool) (m a : ℕ) → Chain start move m a
     → (n : ℕ) × (n < limit area) × Chain start move n a
+
+-- an answer depends on the starts and the moves among the areas alone
+abbrev pub SameMoves : Type 0
+SameMoves =
+    (start start′ : ℕ → Bool) (move move′ : ℕ → ℕ → Bool) → ((a : ℕ) → a < limit area → start a ≡ start′ a)
+    → ((s r : ℕ) → s < limit area → r < limit area → move s r ≡ move′ s r)
+    → (n a : ℕ) → answerWithin start move n a ≡ answerWithin start′ move′ n a
 
 -- ---- the counts of all areas
 -- the count of each area is the number of its answer
@@ -42,15 +45,6 @@ NumberIsCount = (l : Lending) (a : ℕ) → answerNumber (answer l a) ≡ leastC
 abbrev pub AccessIsCount : Type 0
 AccessIsCount =
     (l : Lending) (a : ℕ) → a < limit area → access l a ≡ not (eqb (getD (leastCounts l) a 0) unreached)
-
--- what `least_counts` promises is the counts of the object, where it is handed the object's rows and the structure
--- transposed
-abbrev pub CountsOfRows : Type 0
-CountsOfRows =
-    (definition structure import export : Pairs) (o : ℕ)
-    → countsWithin (has (row definition o))
-    (moveBy structure (transpose structure) (has (row import o)) (has (row export o))) longest
-    ≡ leastCounts (lendingOf definition structure import export o)
 
 -- ---- more pairs, and equal ones
 -- each pair of l is one of k

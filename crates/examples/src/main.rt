@@ -179,7 +179,7 @@ fn print_answer(answer: Answer) {
 }
 
 fn ask(s: State, area: u8, object: u8) {
-    let answer = access::steps(s, area, object);
+    let answer = search::steps(s, area, object);
     print(b"  area ");
     print_number(area);
     print(b", object ");

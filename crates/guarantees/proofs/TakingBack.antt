@@ -14,7 +14,7 @@ use Rattle.state.specs.Site.{Relation, owner, definition, structure, import, ex
 use Rattle.state.specs.Site.{firstKind, cells, related, withPair, owns}
 use Rattle.state.specs.Checks.{_when_, firstMet}
 use Rattle.state.specs.Walk.{hasFirst, hasSecond}
-use Rattle.state.proofs.Bools.{is-true, is-false, holds, fails, so, not-so, and-right, or-left, or-cases, implies}
+use Rattle.state.proofs.Bools.{is-true, is-false, holds, fails, so, or-left, or-cases, implies}
 use Rattle.state.proofs.Bools.{same-test}
 use Rattle.state.proofs.Checks.{passed, none-met}
 use Rattle.state.proofs.Laws.{listed-same, list-shaped, list-keeps-listed, list-back, list-as-is}
@@ -41,9 +41,9 @@ use Rattle.instructions.specs.declared.Target.{Target}
 use Rattle.instructions.specs.declared.Lookup.{Lookup}
 use Rattle.instructions.specs.declared.MustOwn.{MustOwn}
 use Rattle.successors.specs.Successor.{keepsListed, unlistIdle, changed}
-use Rattle.refusals.specs.Refusals.{missing, entitled, absent, bearsAccess}
-use Rattle.refusals.specs.Parts.{noneLeft, stillNamed, resultChecks}
-use Rattle.refusals.proofs.Late.{late-by-result}
+use Rattle.refusals.specs.Refusals.{missing, entitled, absent}
+use Rattle.refusals.specs.Parts.{noneLeft, stillNamed, cutsAccess, resultChecks}
+use Rattle.refusals.proofs.Late.{valid-cuts-none, late-by-result}
 use Rattle.machine.specs.Step.{stepOf}
 use Rattle.guarantees.specs.TakingBack
 use Rattle.guarantees.specs.TakingBack.{matchingRemove, TakenBack, Opposite, unlist-area, remove-owner, remove-structure}
@@ -84,10 +84,8 @@ record Removable (s t : Site) (x : Target) (l : Lookup) (m : MustOwn) (y : Bytes
 module _ (s t : Site) (h : Sound s) (k : Sound t) (x : Target) (l : Lookup) (m : MustOwn) (y : Bytes)
     (c : Removable s t x l m y) where
   -- s is valid
-  unmet-11 : bearsAccess x && not (isValid s) ≡ false
-  unmet-11 =
-      is-false (bearsAccess x && not (isValid s))
-      (λ t. not-so (isValid s) (and-right (bearsAccess x) (not (isValid s)) t) (valid-decided s .1 (h .valid)))
+  unmet-11 : cutsAccess s x (y .b) ≡ false
+  unmet-11 = valid-cuts-none s x (y .b) (is-true (isValid s) (valid-decided s .1 (h .valid)))
 
   remove-passed : firstMet (table t (removing x l m) (y .activator) (y .a) (y .b)) ≡ 0
   remove-passed =
@@ -98,7 +96,7 @@ module _ (s t : Site) (h : Sound s) (k : Sound t) (x : Target) (l : Lookup) (m :
       ∙ passed (6 when _) _ refl
       ∙ passed (7 when _) _ (c .unmet-7)
       ∙ passed (15 when _) _ refl
-      ∙ ap firstMet (late-by-result t (k .shaped) (removing x l m) (y .activator) (y .a) (y .b))
+      ∙ ap firstMet (late-by-result t k (removing x l m) (y .activator) (y .a) (y .b))
       ∙ ap (λ (r : Site). firstMet (resultChecks r x false (y .a) (y .b))) (c .back)
       ∙ passed (8 when _) _ (c .unmet-8)
       ∙ passed (9 when _) _ (c .unmet-9)

@@ -1,11 +1,36 @@
--- Not needed to believe a claim. What this crate's own functions ask and promise of the rows and relations that they
--- are handed.
-use Prim.Native.Nat.{ℕ, _+_, _*_}
-use mathlib.Core.Path.{_≡_}
-use mathlib.Core.Bool.{Bool, false, _&&_, _||_, not}
-use lib.ListN.{length, getD}
-use Rattle.state.specs.Cells.{Members, Pairs}
+-- Not needed to believe a claim. What this crate's own functions promise each other, of the rows that they are handed.
+use Prim.Native.Nat.{ℕ, _+_}
+use mathlib.Core.Bool.{Bool, _&&_, _||_, not, cond}
+use lib.ListN.{getD}
+use Rattle.bits.specs.Bits.{bit, intersection, isEmpty, isSubset, isSingle}
+use Rattle.bits.specs.Rows.{Rows}
 
--- if there is a pair at place j of the row that starts at `from`, its area is listed and so is the row's own number
-abbrev pub cellNamed : (pairs : Pairs) (from : ℕ) (first : Bool) (areas : Members) → ℕ → Bool
-cellNamed pairs from first areas j = not (getD pairs (from + j) false) || (first && getD areas j false)
+-- each place of the row is a listed area, and there is none unless the row's own number is listed
+unfoldable pub rowNamed : (row : ℕ) (first : Bool) (areas : ℕ) → Bool
+rowNamed row first areas = isSubset row (cond first areas 0)
+
+-- what a user owns is listed, and he owns an area if he is listed
+unfoldable pub userFits : (owned : ℕ) (listed : Bool) (areas : ℕ) → Bool
+userFits owned listed areas = rowNamed owned listed areas && (not listed || not (isEmpty owned))
+
+-- what an object's pairs name is listed, and it is defined in exactly one area if it is listed
+unfoldable pub objectFits : (defined imported exported : ℕ) (listed : Bool) (areas : ℕ) → Bool
+objectFits defined imported exported listed areas =
+    rowNamed defined listed areas && rowNamed imported listed areas && rowNamed exported listed areas
+    && (not listed || isSingle defined)
+
+-- the same of user u, of the structure pairs of area a, and of object from + k
+abbrev pub userAt : (owners : Rows) (users areas : ℕ) → ℕ → Bool
+userAt owners users areas u = userFits (getD owners u 0) (bit users u) areas
+
+abbrev pub areaAt : (structure : Rows) (areas : ℕ) → ℕ → Bool
+areaAt structure areas a = rowNamed (getD structure a 0) (bit areas a) areas
+
+abbrev pub objectAt : (definitions imports exports : Rows) (from objects areas : ℕ) → ℕ → Bool
+objectAt definitions imports exports from objects areas k =
+    objectFits (getD definitions (from + k) 0) (getD imports (from + k) 0) (getD exports (from + k) 0) (bit objects k)
+    areas
+
+-- no place is in row o of both
+abbrev pub apartAt : (these those : Rows) → ℕ → Bool
+apartAt these those o = isEmpty (intersection (getD these o 0) (getD those o 0))

@@ -1,152 +1,122 @@
 // Whether a record is sound: consistent, acceptable, with at least one area, valid, and without an import by the area
-// that defines the object.
+// that defines the object. Rows are tested one by one, and what is wrong is gathered to the end, so that the compiler
+// looks at many rows at once.
 ghost use mathlib.Core.Path.{_≡_};
 ghost use mathlib.Core.Logic.{_↔_};
-ghost use Prim.Native.Nat.{_+_, _*_, _≤_};
-ghost use lib.Dec.{T, eqb};
-ghost use lib.ListN.{length};
-ghost use Rattle.state.specs.Below.{eachBelow, countBelow};
-ghost use Rattle.access.specs.Answer.{has};
-ghost use Rattle.soundness.specs.Sound.{NoOwnImport, Sound};
+ghost use Prim.Native.Nat.{_≤_};
+ghost use lib.Dec.{T};
+ghost use Rattle.state.specs.Below.{eachBelow};
 ghost use Rattle.state.specs.Site.{area, members};
 ghost use Rattle.state.specs.Stands.{site};
-ghost use Rattle.soundness.specs.Tests.{named, allOwn, allOwned, allDefined, someListed};
-ghost use Rattle.soundness.specs.Tests.{isConsistent, isAcceptable, isWellFormed, disjoint, noOwnImport, isSound};
-ghost use Rattle.inspection.specs.Parts.{cellNamed};
+ghost use Rattle.soundness.specs.Sound.{NoOwnImport, Sound};
+ghost use Rattle.soundness.specs.Tests.{someListed, isWellFormed, noOwnImport, isSound};
+ghost use Rattle.inspection.specs.Parts.{rowNamed, userFits, objectFits, userAt, areaAt, objectAt, apartAt};
 use state::State;
 
-// Does each pair of the row that starts at `from` name an area of the set, and is there none unless the row's own
-// number is listed?
-fn row_named(pairs: &[bool], from: usize, first: bool, areas: [bool; 32]) -> bool
-    requires { ⌜ from + 32 ≤ length (now pairs) ⌝ }
-    ensures { λ r. ⌜ r ≡ eachBelow 32 (cellNamed (now (pairs .entry)) from first areas) ⌝ }
+// Does each pair of a row name a listed area, and is there none unless the row's own number is listed?
+fn is_named(row: u32, first: bool, areas: u32) -> bool
+    ensures { λ r. ⌜ r ≡ rowNamed row first areas ⌝ }
+{
+    if first {
+        bits::is_subset(row, areas)
+    } else {
+        bits::is_subset(row, 0)
+    }
+}
+
+// Is what a user owns listed, and owns he an area if he is listed?
+fn user_fits(owned: u32, listed: bool, areas: u32) -> bool
+    ensures { λ r. ⌜ r ≡ userFits owned listed areas ⌝ }
+{
+    is_named(owned, listed, areas) & (!listed | !bits::is_empty(owned))
+}
+
+// So it is for every user.
+fn users_fit(owners: &[u32; 32], users: u32, areas: u32) -> bool
+    ensures { λ r. ⌜ r ≡ eachBelow 32 (userAt (now (owners .entry)) users areas) ⌝ }
 {
     let mut fits = true;
-    for j in 0..32usize {
-        fits = fits & (!pairs[from + j] | (first & areas[j]));
+    for u in 0..32u8 {
+        fits = fits & user_fits(owners[u as usize], bits::is_set(users, u), areas);
     }
     fits
 }
 
-// Does each pair of the relation name a number of the set and an area?
-fn all_named<'a>(pairs: &'a [bool], firsts: &'a [bool], areas: [bool; 32]) -> bool
-    requires { ⌜ length (now pairs) ≡ length (now firsts) * 32 ⌝ }
-    ensures { λ r. ⌜ r ≡ named (now (pairs .entry)) (now (firsts .entry)) areas ⌝ }
-{
-    for i in 0..firsts.len() {
-        if !row_named(pairs, i * 32, firsts[i], areas) {
-            return false;
-        }
-    }
-    true
-}
-
-// Is each number of the set the first of some pair?
-fn all_own<'a>(set: [bool; 32], pairs: &'a [bool; 1024]) -> bool
-    ensures { λ r. ⌜ r ≡ allOwn set (now (pairs .entry)) ⌝ }
-{
-    for i in 0..32u8 {
-        if set[i as usize] {
-            if !rows::in_row(pairs, i) {
-                return false;
-            }
-        }
-    }
-    true
-}
-
-// Has the set exactly one number?
-fn is_single(set: [bool; 32]) -> bool
-    ensures { λ r. ⌜ r ≡ eqb (countBelow 32 (has set)) 1 ⌝ }
-{
-    let mut count: u8 = 0;
-    for j in 0..32usize {
-        count = count + set[j] as u8;
-    }
-    count == 1
-}
-
-// Is each number of the set the first of exactly one pair?
-fn all_defined<'a>(set: [bool; 64], pairs: &'a [bool]) -> bool
-    ensures { λ r. ⌜ r ≡ allDefined set (now (pairs .entry)) ⌝ }
-{
-    for i in 0..64u8 {
-        if set[i as usize] {
-            if !is_single(rows::row_of(pairs, i)) {
-                return false;
-            }
-        }
-    }
-    true
-}
-
-// Has the set a number at all?
-fn has_member(set: &[bool]) -> bool
-    ensures { λ r. ⌜ r ≡ someListed (now (set .entry)) ⌝ }
-{
-    for i in 0..set.len() {
-        if set[i] {
-            return true;
-        }
-    }
-    false
-}
-
-// Is no pair in both relations?
-fn are_disjoint<'a>(these: &'a [bool], those: &'a [bool]) -> bool
-    requires { ⌜ length (now these) ≡ length (now those) ⌝ }
-    ensures { λ r. ⌜ r ≡ disjoint (now (these .entry)) (now (those .entry)) ⌝ }
+// Is what each structure pair names listed?
+fn areas_fit(structure: &[u32; 32], areas: u32) -> bool
+    ensures { λ r. ⌜ r ≡ eachBelow 32 (areaAt (now (structure .entry)) areas) ⌝ }
 {
     let mut fits = true;
-    for k in 0..these.len() {
-        fits = fits & !(these[k] & those[k]);
+    for a in 0..32u8 {
+        fits = fits & is_named(structure[a as usize], bits::is_set(areas, a), areas);
     }
     fits
 }
 
-// Is whatever a pair names listed?
-fn is_consistent(s: State) -> bool
-    ensures { λ r. ⌜ r ≡ isConsistent (site s) ⌝ }
+// Is what an object's pairs name listed, and is it defined in exactly one area if it is listed?
+fn object_fits(defined: u32, imported: u32, exported: u32, listed: bool, areas: u32) -> bool
+    ensures { λ r. ⌜ r ≡ objectFits defined imported exported listed areas ⌝ }
 {
-    let areas = s.areas;
-    let inner = s.areas;
-    all_named(&s.owners, &s.users, areas)
-        & all_named(&s.definitions, &s.objects, areas)
-        & all_named(&s.structure, &inner, areas)
-        & all_named(&s.imports, &s.objects, areas)
-        & all_named(&s.exports, &s.objects, areas)
+    is_named(defined, listed, areas)
+        & is_named(imported, listed, areas)
+        & is_named(exported, listed, areas)
+        & (!listed | bits::is_single(defined))
 }
 
-// Does every listed user own an area, has every listed area an owner, and is every listed object defined in exactly one
-// area?
-fn is_acceptable(s: State) -> bool
-    ensures { λ r. ⌜ r ≡ isAcceptable (site s) ⌝ }
+// So it is for each of 32 objects, from `from` on; `objects` is their row of the set.
+fn objects_fit<'a>(
+    definitions: &'a [u32; 64],
+    imports: &'a [u32; 64],
+    exports: &'a [u32; 64],
+    from: usize,
+    objects: u32,
+    areas: u32,
+) -> bool
+    requires { ⌜ from ≤ 32 ⌝ }
+    ensures { λ r. ⌜ r ≡ eachBelow 32 (objectAt (now (definitions .entry)) (now (imports .entry)) (now (exports .entry))
+        from objects areas) ⌝ }
 {
-    let users = s.users;
-    let areas = s.areas;
-    let objects = s.objects;
-    let turned = rows::transposed(&s.owners);
-    all_own(users, &s.owners) & all_own(areas, &turned) & all_defined(objects, &s.definitions)
+    let mut fits = true;
+    for k in 0..32u8 {
+        let o = from + k as usize;
+        let listed = bits::is_set(objects, k);
+        fits = fits & object_fits(definitions[o], imports[o], exports[o], listed, areas);
+    }
+    fits
 }
 
 // Has the record an area at all?
 pub fn has_area(s: State) -> bool
     ensures { λ r. ⌜ r ≡ someListed (members (site s) area) ⌝ }
 {
-    has_member(&s.areas)
+    !bits::is_empty(s.areas[0])
 }
 
 // Is the record consistent and acceptable, with at least one area?
 pub fn is_well_formed(s: State) -> bool
     ensures { λ r. ⌜ r ≡ isWellFormed (site s) ⌝ }
 {
-    if !is_consistent(s) {
-        return false;
+    let users = s.users[0];
+    let areas = s.areas[0];
+    let low = s.objects[0];
+    let high = s.objects[1];
+    users_fit(&s.owners, users, areas)
+        & areas_fit(&s.structure, areas)
+        & objects_fit(&s.definitions, &s.imports, &s.exports, 0, low, areas)
+        & objects_fit(&s.definitions, &s.imports, &s.exports, 32, high, areas)
+        & bits::is_subset(areas, relations::seconds(&s.owners))
+        & !bits::is_empty(areas)
+}
+
+// Is no pair in both relations?
+fn are_disjoint<'a>(these: &'a [u32; 64], those: &'a [u32; 64]) -> bool
+    ensures { λ r. ⌜ r ≡ eachBelow 64 (apartAt (now (these .entry)) (now (those .entry))) ⌝ }
+{
+    let mut apart = true;
+    for o in 0..64usize {
+        apart = apart & bits::is_empty(bits::intersection(these[o], those[o]));
     }
-    if !is_acceptable(s) {
-        return false;
-    }
-    has_area(s)
+    apart
 }
 
 // Does no area import an object that it defines? Any content may be asked about.

@@ -1,5 +1,5 @@
 -- The C interface: what each function answers, and what the buffers hold afterwards. A state crosses as its record of
--- 8,320 bytes (records, Record); a buffer is the list of its bytes, and its length is that of the list. The words in
+-- 1,040 bytes (records, Record); a buffer is the list of its bytes, and its length is that of the list. The words in
 -- quotation marks are those of include/panelrights.h.
 --     recordSize                     panelrights_state_bytes (records, Record)
 --     numberFor, foundingBuffer      panelrights_founding (the first: records, Record)

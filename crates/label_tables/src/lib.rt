@@ -4,6 +4,7 @@ ghost use mathlib.Core.Path.{_≡_};
 ghost use Prim.Native.Nat.{_+_, _*_, _≤_};
 ghost use lib.ListN.{length};
 ghost use Rattle.state.specs.Below.{eachBelow};
+ghost use Rattle.bits.specs.Rows.{cellsOf};
 ghost use Rattle.label_tables.specs.Labels.{labelFits, labelsFit, labelsAscend, labelsListed, labelIndex};
 ghost use Rattle.label_tables.specs.Texts.{textFits};
 use state::State;
@@ -72,12 +73,12 @@ pub fn all_ascend(table: &[u8]) -> bool
 }
 
 // Is each entry's area listed?
-pub fn all_listed<'a>(areas: &'a [bool], table: &'a [u8]) -> bool
-    ensures { λ r. ⌜ r ≡ labelsListed (now (areas .entry)) (now (table .entry)) ⌝ }
+pub fn all_listed<'a>(areas: &'a [u32], table: &'a [u8]) -> bool
+    ensures { λ r. ⌜ r ≡ labelsListed (cellsOf (now (areas .entry))) (now (table .entry)) ⌝ }
 {
     let count = table.len() / LABEL_SIZE;
     for k in 0..count {
-        if !state::is_member(areas, table[k * LABEL_SIZE]) {
+        if !relations::is_member(areas, table[k * LABEL_SIZE]) {
             return false;
         }
     }

@@ -17,8 +17,9 @@ use Rattle.state.specs.Site.{Site, Shaped, verdict}
 use Rattle.readings.specs.Readings.{seenOf}
 use Rattle.readings.specs.declared.Seen.{Seen}
 use Rattle.instructions.specs.declared.Rule.{Rule}
-use Rattle.state.proofs.Bools.{fails, holds}
+use Rattle.state.proofs.Bools.{fails, holds, so}
 use Rattle.soundness.specs.Tests.{isSound}
+use Rattle.soundness.proofs.Laws.{sound-decided}
 use Rattle.instructions.specs.Instructions.{Bytes, rule}
 use Rattle.instructions.specs.Decode.{decodeOf, decodedNumber, misfits}
 use Rattle.successors.specs.Successor.{successor, successorOf}
@@ -91,7 +92,7 @@ module _ (s : Site) (bytes : Bytes) (shaped : Shaped s) (x : Instruction) (sound
 
   total-is : (m : ℕ) (v : Bool) → m ≡ first → eqb m 0 ≡ v → total ≡ cond v (second next) first
   total-is m v f e =
-      checks-in-two s shaped (seenOf s (bytes .activator) (bytes .a) (bytes .b)) (rule x) (bytes .activator) (bytes .a) (bytes .b) ∙ ap (λ (p : Bool). cond p (second next) first) (ap (λ (k : ℕ). eqb k 0) (sym f) ∙ e)
+      checks-in-two s (sound-decided s shaped .0 (so (isSound s) sound)) (seenOf s (bytes .activator) (bytes .a) (bytes .b)) (rule x) (bytes .activator) (bytes .a) (bytes .b) ∙ ap (λ (p : Bool). cond p (second next) first) (ap (λ (k : ℕ). eqb k 0) (sym f) ∙ e)
 
   -- a refusal with the number n
   stopped : (n : ℕ) → (n ≡ 0 → ⊥) → total ≡ n → verdict n s ≡ stepOf s bytes

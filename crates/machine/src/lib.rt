@@ -77,5 +77,5 @@ pub fn ask(s: State, a: u32, b: u32) -> Reply
     if !readings::are_listed(s, area, object) {
         return Reply::Refused(4);
     }
-    Reply::Answered(access::steps(s, area, object))
+    Reply::Answered(search::steps(s, area, object))
 }

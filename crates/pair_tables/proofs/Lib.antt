@@ -2,3 +2,4 @@
 mod Order
 mod Pairs
 pub mod Laws
+mod AtHand

@@ -1,8 +1,9 @@
 // A table of pairs, as a slice of its own bytes: whether it is in range and ascending, and the relation that it holds.
 ghost use mathlib.Core.Path.{_≡_};
 ghost use Prim.Native.Nat.{_+_, _*_, _≤_};
-ghost use lib.ListN.{length};
+ghost use lib.ListN.{length, set};
 ghost use Rattle.state.specs.Below.{eachBelow};
+ghost use Rattle.bits.specs.Rows.{cellsOf};
 ghost use Rattle.pair_tables.specs.Pairs.{pairsFit, earlier, pairsAscend, withPairs};
 ghost use Rattle.pair_tables.specs.Runs.{pairFitsFrom};
 use state::State;
@@ -66,26 +67,55 @@ pub fn all_ascend(table: &[u8]) -> bool
     ascends
 }
 
-// Puts each pair of the table into the relation.
-fn fill(cells: &mut [bool], table: &[u8])
-    ensures { λ _. ⌜ now (cells .exit) ≡ withPairs (now (table .entry)) (now (cells .entry)) ⌝ }
+// Stores the row of a number, or nothing past the last row.
+fn store(rows: &mut [u32], first: u8, row: u32)
+    ensures { λ _. ⌜ now (rows .exit) ≡ set (now (rows .entry)) first row ⌝ }
 {
-    let count = table.len() / PAIR_SIZE;
-    for k in 0..count {
-        state::put_in(cells, table[k * PAIR_SIZE], table[k * PAIR_SIZE + 1], true);
+    let at = first as usize;
+    if at < rows.len() {
+        rows[at] = row;
     }
 }
 
-// `fill` for the owner or structure pairs: a field is lent as an array.
-pub fn fill_32(cells: &mut [bool; 1024], table: &[u8])
-    ensures { λ _. ⌜ now (cells .exit) ≡ withPairs (now (table .entry)) (now (cells .entry)) ⌝ }
+// The row of `first`, where the row of `at` is at hand in place of the stored one: if it is another's, that is stored.
+fn turned(rows: &mut [u32], at: u8, row: u32, first: u8) -> u32
+    ensures { λ r. ⌜ set (now (rows .exit)) first r ≡ set (now (rows .entry)) at row ⌝ }
 {
-    fill(cells, table);
+    if first == at {
+        return row;
+    }
+    store(rows, at, row);
+    relations::row_of(rows, first)
+}
+
+// Puts each pair of the table into the relation. In an ascending table the pairs of a row stand side by side, so the
+// row is at hand while they come.
+fn fill(rows: &mut [u32], table: &[u8])
+    ensures { λ _. ⌜ cellsOf (now (rows .exit)) ≡ withPairs (now (table .entry)) (cellsOf (now (rows .entry))) ⌝ }
+{
+    let count = table.len() / PAIR_SIZE;
+    let mut at: u8 = 0;
+    let mut row = relations::row_of(rows, 0);
+    for k in 0..count {
+        let first = table[k * PAIR_SIZE];
+        let own = turned(rows, at, row, first);
+        let more = bits::with_bit(own, table[k * PAIR_SIZE + 1], true);
+        at = first;
+        row = more;
+    }
+    store(rows, at, row);
+}
+
+// `fill` for the owner or structure pairs: a field is lent as an array.
+pub fn fill_32(rows: &mut [u32; 32], table: &[u8])
+    ensures { λ _. ⌜ cellsOf (now (rows .exit)) ≡ withPairs (now (table .entry)) (cellsOf (now (rows .entry))) ⌝ }
+{
+    fill(rows, table);
 }
 
 // `fill` for the definition, import or export pairs.
-pub fn fill_64(cells: &mut [bool; 2048], table: &[u8])
-    ensures { λ _. ⌜ now (cells .exit) ≡ withPairs (now (table .entry)) (now (cells .entry)) ⌝ }
+pub fn fill_64(rows: &mut [u32; 64], table: &[u8])
+    ensures { λ _. ⌜ cellsOf (now (rows .exit)) ≡ withPairs (now (table .entry)) (cellsOf (now (rows .entry))) ⌝ }
 {
-    fill(cells, table);
+    fill(rows, table);
 }

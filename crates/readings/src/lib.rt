@@ -36,18 +36,18 @@ pub fn look(s: State, u: u8, a: u8, b: u8) -> Seen
     ensures { λ r. ⌜ r ≡ seenOf (site s) u a b ⌝ }
 {
     Seen {
-        activator: state::is_member(&s.users, u),
-        area: state::is_member(&s.areas, a),
-        user: state::is_member(&s.users, b),
-        outer: state::is_member(&s.areas, b),
-        object: state::is_member(&s.objects, b),
-        own: state::is_pair(&s.owners, u, a),
-        other: state::is_pair(&s.owners, u, b),
-        owned: state::is_pair(&s.owners, b, a),
-        defined: state::is_pair(&s.definitions, b, a),
-        inside: state::is_pair(&s.structure, a, b),
-        imported: state::is_pair(&s.imports, b, a),
-        exported: state::is_pair(&s.exports, b, a),
+        activator: relations::is_member(&s.users, u),
+        area: relations::is_member(&s.areas, a),
+        user: relations::is_member(&s.users, b),
+        outer: relations::is_member(&s.areas, b),
+        object: relations::is_member(&s.objects, b),
+        own: relations::is_pair(&s.owners, u, a),
+        other: relations::is_pair(&s.owners, u, b),
+        owned: relations::is_pair(&s.owners, b, a),
+        defined: relations::is_pair(&s.definitions, b, a),
+        inside: relations::is_pair(&s.structure, a, b),
+        imported: relations::is_pair(&s.imports, b, a),
+        exported: relations::is_pair(&s.exports, b, a),
     }
 }
 
@@ -55,31 +55,31 @@ pub fn look(s: State, u: u8, a: u8, b: u8) -> Seen
 pub fn is_owner(s: State, u: u8) -> bool
     ensures { λ r. ⌜ r ≡ (listed (site s) user u && hasFirst (cells (site s) owner) u) ⌝ }
 {
-    state::is_member(&s.users, u) & rows::in_row(&s.owners, u)
+    relations::is_member(&s.users, u) & relations::in_row(&s.owners, u)
 }
 
 // Are area a and object b listed?
 pub fn are_listed(s: State, a: u8, b: u8) -> bool
     ensures { λ r. ⌜ r ≡ (listed (site s) area a && listed (site s) object b) ⌝ }
 {
-    state::is_member(&s.areas, a) & state::is_member(&s.objects, b)
+    relations::is_member(&s.areas, a) & relations::is_member(&s.objects, b)
 }
 
 // Has the area an owner?
 pub fn is_owned(s: State, a: u8) -> bool
     ensures { λ r. ⌜ r ≡ hasSecond (cells (site s) owner) a ⌝ }
 {
-    rows::in_column(&s.owners, a)
+    relations::in_column(&s.owners, a)
 }
 
 // Is there a pair that names the area?
 pub fn names_area(s: State, number: u8) -> bool
     ensures { λ r. ⌜ r ≡ namesArea (site s) number ⌝ }
 {
-    rows::in_column(&s.owners, number)
-        | rows::in_column(&s.definitions, number)
-        | rows::in_row(&s.structure, number)
-        | rows::in_column(&s.structure, number)
-        | rows::in_column(&s.imports, number)
-        | rows::in_column(&s.exports, number)
+    relations::in_column(&s.owners, number)
+        | relations::in_column(&s.definitions, number)
+        | relations::in_row(&s.structure, number)
+        | relations::in_column(&s.structure, number)
+        | relations::in_column(&s.imports, number)
+        | relations::in_column(&s.exports, number)
 }

@@ -1,2 +1,1 @@
--- Lay has how cells are laid over a buffer as bytes.
 mod Lay

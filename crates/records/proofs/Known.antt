@@ -10,16 +10,16 @@ use Rattle.state.specs.Below.{eachBelow}
 use Rattle.state.specs.Site.{empty}
 use Rattle.state.proofs.Bools.{and-left, and-right}
 use Rattle.state.proofs.Below.{each-at}
-use Rattle.records.specs.Record.{recordSize, isBit, isRecord, stateAt, stateOf}
+use Rattle.records.specs.Record.{recordSize, isByte, isRecord, stateAt, stateOf}
 
 module _ (bytes : List ℕ) where
   pub record-length : T (isRecord bytes) → length bytes ≡ recordSize
   unfolding isRecord
-  record-length t = eqb→eq (length bytes) recordSize (and-left (eqb (length bytes) recordSize) (eachBelow (length bytes) (isBit bytes)) t)
+  record-length t = eqb→eq (length bytes) recordSize (and-left (eqb (length bytes) recordSize) (eachBelow (length bytes) (isByte bytes)) t)
 
-  pub record-bit : T (isRecord bytes) → (k : ℕ) → k < length bytes → T (isBit bytes k)
+  pub record-byte : T (isRecord bytes) → (k : ℕ) → k < length bytes → T (isByte bytes k)
   unfolding isRecord
-  record-bit t = each-at (isBit bytes) (length bytes) (and-right (eqb (length bytes) recordSize) (eachBelow (length bytes) (isBit bytes)) t)
+  record-byte t = each-at (isByte bytes) (length bytes) (and-right (eqb (length bytes) recordSize) (eachBelow (length bytes) (isByte bytes)) t)
 
   pub record-state : isRecord bytes ≡ true → stateOf bytes ≡ stateAt bytes
   unfolding stateOf

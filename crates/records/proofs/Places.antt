@@ -1,29 +1,26 @@
 -- Where each set and each relation stands among the places of a state, and the bytes that are there.
 --     list-held, pairs-held     the cells of a set, and of a relation, from its start on
---     bytes-length              how many bytes there are
---     by-cells                  the bytes are those of the cells
---     byte-at, byte-of          the byte of a place, and of a cell
+--     byte-bit                  a bit of a byte is a place
+--     bytes-append              the bytes of places behind each other
 -- Assumes nothing.
-use Prim.Native.Nat.{ℕ, _+_, _*_, _≤_, _<_, _/_, _%_}
+use Prim.Native.Nat.{ℕ, _+_, _-_, _*_, _≤_, _<_}
 use mathlib.Core.Path.{_≡_, sym, ap, ap₂, _∙_}
 use mathlib.Core.Bool.{Bool, false}
 use mathlib.Core.List.{List, _++_}
 use native.Mathlib.Omega.{arith}
-use lib.ListN.{length, getD, length-append, List·getD-append, List·getD-map}
+use native.Mathlib.Decide.{decLt}
+use lib.ListN.{length, getD, length-append, List·getD-append}
 use lib.Seq.{getD-append-add}
-use Rattle.state.specs.Tabulate.{tabulate}
-use Rattle.state.specs.Cells.{width, member, pair}
-use Rattle.state.specs.Site.{Kind, user, area, object, Relation, owner, definition, structure, import, export, limit, firstKind, members, cells, Shaped}
+use Rattle.bits.specs.Bits.{bit}
+use Rattle.bits.proofs.Laws.{word-bit, same-word}
+use Rattle.state.specs.Site.{Kind, user, area, object, Relation, owner, definition, structure, import, export, members, cells, Shaped}
 use Rattle.state.specs.Site.{Site}
-use Rattle.records.specs.Record.{listStart, pairStart, recordSize, bit, listByte, listBytes, pairByte, pairBytes, bytesOf}
-use Rattle.records.specs.Bits.{bits}
-use Rattle.state.proofs.Tabulate.{length-tabulate, tabulate-is}
-use Rattle.state.proofs.Laws.{member-cell, pair-at}
-use Rattle.records.proofs.Bits.{bits-append, bits-length}
+use Rattle.records.specs.Record.{listStart, pairStart, places, byteOf, bytesOfPlaces}
+use Rattle.state.proofs.Tabulate.{length-tabulate, getD-tabulate, tabulate-is}
 
--- the cells of a state, those of one set or relation behind those of another
-abbrev pub places : Site → List Bool
-places s = s .users ++ s .areas ++ s .objects ++ s .owners ++ s .definitions ++ s .structure ++ s .imports ++ s .exports
+-- how many places there are
+abbrev pub placeCount : ℕ
+placeCount = 8320
 
 -- `part` stands in the n cells l, from `start` on
 pub record Held (l : List Bool) (n start : ℕ) (part : List Bool) : Type 0 where
@@ -50,38 +47,41 @@ held-more l part more m n start h t =
       cell = λ i q. List·getD-append l more false (start + i) (omega (arith, t .long, t .inside)) ∙ t .cell i q;
     }
 
--- ---- the bytes of cells
-list-bits : (c : List Bool) (n : ℕ) → length c ≡ n → tabulate n (λ i. bit (member c i)) ≡ bits c
-list-bits c n h =
-    sym (tabulate-is (λ i. bit (member c i)) n 0 (bits c) (bits-length c ∙ h)
-    (λ k q. List·getD-map bit c k false ∙ ap bit (sym (member-cell c k))))
+-- ---- the bytes of places
+pub bytes-long : (n : ℕ) (c : List Bool) → length (bytesOfPlaces n c) ≡ n
+unfolding bytesOfPlaces
+bytes-long n c = length-tabulate (byteOf c) n
 
-pair-bits : (c : List Bool) (n : ℕ) → length c ≡ n → tabulate n (λ p. bit (pair c (p / width) (p % width))) ≡ bits c
-pair-bits c n h =
-    sym (tabulate-is (λ p. bit (pair c (p / width) (p % width))) n 0 (bits c) (bits-length c ∙ h)
-    (λ k q. List·getD-map bit c k false ∙ ap bit (sym (pair-at c k))))
+pub byte-at : (n : ℕ) (c : List Bool) (p : ℕ) → p < n → getD (bytesOfPlaces n c) p 0 ≡ byteOf c p
+unfolding bytesOfPlaces
+byte-at n c p h = getD-tabulate (byteOf c) n p 0 h
 
-joined : (c d : List Bool) {x y : List ℕ} → x ≡ bits c → y ≡ bits d → x ++ y ≡ bits (c ++ d)
-joined c d e f = ap₂ _++_ e f ∙ sym (bits-append c d)
+pub byte-bit : (n : ℕ) (c : List Bool) (p k : ℕ) → p < n → k < 8 → bit (getD (bytesOfPlaces n c) p 0) k ≡ getD c (p * 8 + k) false
+byte-bit n c p k hp hk = ap (λ (x : ℕ). bit x k) (byte-at n c p hp) ∙ word-bit 8 _ k hk
 
--- ---- how many bytes there are
-record Long (x : List ℕ) (n : ℕ) : Type 0 where
-  pub long : length x ≡ n
-
-and-list : (s : Site) (k : Kind) {x : List ℕ} (m : ℕ) → Long x m → Long (x ++ listBytes s k) (m + limit k)
-and-list s k {x} m t = record { long = length-append x (listBytes s k) ∙ ap₂ _+_ (t .long) (length-tabulate (listByte s k) (limit k)) }
-
-and-pairs : (s : Site) (r : Relation) {x : List ℕ} (m : ℕ) → Long x m → Long (x ++ pairBytes s r) (m + limit (firstKind r) * width)
-and-pairs s r {x} m t =
-    record { long = length-append x (pairBytes s r) ∙ ap₂ _+_ (t .long) (length-tabulate (pairByte s r) (limit (firstKind r) * width)) }
-
-pub bytes-length : (s : Site) → length (bytesOf s) ≡ recordSize
-unfolding bytesOf
-bytes-length s =
-    let users : Long (listBytes s user) 32 = record { long = length-tabulate (listByte s user) 32 } in
-    let objects = and-list s object 64 (and-list s area 32 users) in
-    let structures = and-pairs s structure 3200 (and-pairs s definition 1152 (and-pairs s owner 128 objects)) in
-    and-pairs s export 6272 (and-pairs s import 4224 structures) .long
+-- the bytes of places behind others, of which there are eight to a byte
+pub bytes-append : (m n : ℕ) (c d : List Bool) → length c ≡ m * 8 → bytesOfPlaces (m + n) (c ++ d) ≡ bytesOfPlaces m c ++ bytesOfPlaces n d
+unfolding bytesOfPlaces
+bytes-append m n c d h =
+    sym (tabulate-is (byteOf (c ++ d)) (m + n) 0 (bytesOfPlaces m c ++ bytesOfPlaces n d)
+    (length-append (bytesOfPlaces m c) (bytesOfPlaces n d) ∙ ap₂ _+_ (bytes-long m c) (bytes-long n d)) each)
+  where
+    each : (p : ℕ) → p < m + n → getD (bytesOfPlaces m c ++ bytesOfPlaces n d) p 0 ≡ byteOf (c ++ d) p
+    each p hp = go (decLt p m)
+      where
+        go : Dec (p < m) → getD (bytesOfPlaces m c ++ bytesOfPlaces n d) p 0 ≡ byteOf (c ++ d) p
+        go (yes l) =
+            List·getD-append (bytesOfPlaces m c) (bytesOfPlaces n d) 0 p (rw (bytes-long m c) l) ∙ byte-at m c p l
+            ∙ same-word 8 _ _ (λ k q. sym (List·getD-append c d false (p * 8 + k) (omega (arith, h))))
+        go (no l) =
+            let e : p ≡ length (bytesOfPlaces m c) + (p - m) = omega (arith, bytes-long m c) in
+            let inside : p - m < n = omega arith in
+            ap (λ (j : ℕ). getD (bytesOfPlaces m c ++ bytesOfPlaces n d) j 0) e
+            ∙ getD-append-add (bytesOfPlaces m c) (bytesOfPlaces n d) (p - m) 0 ∙ byte-at n d (p - m) inside
+            ∙ same-word 8 _ _
+            (λ k q.
+            let f : length c + ((p - m) * 8 + k) ≡ p * 8 + k = omega (arith, h) in
+            sym (ap (λ (j : ℕ). getD (c ++ d) j false) (sym f) ∙ getD-append-add c d ((p - m) * 8 + k) false))
 
 module _ (s : Site) (h : Shaped s) where
   -- the first two sets and relations, the first three, and so on
@@ -122,13 +122,13 @@ module _ (s : Site) (h : Shaped s) where
   held7 : Held l7 6272 4224 (s .imports)
   held7 = held-last l6 (s .imports) 4224 2048 (held6 .long) (h .relations import)
 
-  held8 : Held (places s) recordSize 6272 (s .exports)
+  held8 : Held (places s) placeCount 6272 (s .exports)
   held8 = held-last l7 (s .exports) 6272 2048 (held7 .long) (h .relations export)
 
   -- and stands so among all places
   module _ (start : ℕ) (part : List Bool) where
     abbrev Whole : Type 0
-    Whole = Held (places s) recordSize start part
+    Whole = Held (places s) placeCount start part
 
     from7 : Held l7 6272 start part → Whole
     from7 t = held-more l7 part (s .exports) 6272 2048 start (h .relations export) t
@@ -148,36 +148,14 @@ module _ (s : Site) (h : Shaped s) where
     from2 : Held l2 64 start part → Whole
     from2 t = from3 (held-more l2 part (s .objects) 64 64 start (h .sets object) t)
 
-  pub list-held : (k : Kind) → Held (places s) recordSize (listStart k) (members s k)
+  pub list-held : (k : Kind) → Held (places s) placeCount (listStart k * 8) (members s k)
   list-held user = from2 0 (s .users) (held-more (s .users) (s .users) (s .areas) 32 32 0 (h .sets area) (held-first (s .users) 32 (h .sets user)))
   list-held area = from2 32 (s .areas) held2
   list-held object = from3 64 (s .objects) held3
 
-  pub pairs-held : (r : Relation) → Held (places s) recordSize (pairStart r) (cells s r)
+  pub pairs-held : (r : Relation) → Held (places s) placeCount (pairStart r * 8) (cells s r)
   pairs-held owner = from4 128 (s .owners) held4
   pairs-held definition = from5 1152 (s .definitions) held5
   pairs-held structure = from6 3200 (s .structure) held6
   pairs-held import = from7 4224 (s .imports) held7
   pairs-held export = held8
-
-  -- a record's bytes are those of the cells
-  pub by-cells : bytesOf s ≡ bits (places s)
-  unfolding bytesOf
-  by-cells =
-      joined l7 (s .exports)
-      (joined l6 (s .imports)
-      (joined l5 (s .structure)
-      (joined l4 (s .definitions)
-      (joined l3 (s .owners) (joined l2 (s .objects) (joined (s .users) (s .areas) (list-bits (s .users) 32 (h .sets user)) (list-bits (s .areas) 32 (h .sets area))) (list-bits (s .objects) 64 (h .sets object)))
-      (pair-bits (s .owners) 1024 (h .relations owner)))
-      (pair-bits (s .definitions) 2048 (h .relations definition)))
-      (pair-bits (s .structure) 1024 (h .relations structure)))
-      (pair-bits (s .imports) 2048 (h .relations import)))
-      (pair-bits (s .exports) 2048 (h .relations export))
-
-  -- the byte of a place, and of a cell
-  pub byte-at : (k : ℕ) → getD (bytesOf s) k 0 ≡ bit (getD (places s) k false)
-  byte-at k = ap (λ (l : List ℕ). getD l k 0) by-cells ∙ List·getD-map bit (places s) k false
-
-  pub byte-of : (start : ℕ) (part : List Bool) → Held (places s) recordSize start part → (i : ℕ) → i < length part → getD (bytesOf s) (start + i) 0 ≡ bit (getD part i false)
-  byte-of start part t i q = byte-at (start + i) ∙ ap bit (t .cell i q)

@@ -19,7 +19,7 @@ abbrev pub NoRecordEmpty : Type 0
 NoRecordEmpty = (bytes : List ℕ) → isRecord bytes ≡ false → stateOf bytes ≡ empty
 
 abbrev pub RecordLength : Type 0
-RecordLength = (bytes : List ℕ) → T (isRecord bytes) → length bytes ≡ 8320
+RecordLength = (bytes : List ℕ) → T (isRecord bytes) → length bytes ≡ 1040
 
 -- ---- a buffer that a state is written into
 abbrev pub StoredSized : Type 0

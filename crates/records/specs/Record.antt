@@ -1,84 +1,79 @@
--- The record of a state as bytes, as programs in other languages keep it (include/panelrights.h): "8,320 bytes, one a
--- place, 1 where a number is listed or a pair is there, and 0 where not." Here and above, a record is these bytes.
+-- The record of a state as bytes, as programs in other languages keep it (include/panelrights.h): "rows of bits, one
+-- row of 32 for each user, area or object" (document 02, point 11), four bytes a row, the low byte first. So it is one
+-- bit for each place, 1 where a number is listed or a pair is there and 0 where not, eight places a byte, the lowest in
+-- the lowest bit. Here and above, a record is these bytes.
 --     listStart, pairStart, recordSize     where each set and each relation begins, and how many bytes there are
---     bytesOf                              the bytes of a state's record
+--     places, bytesOf                      the places of a state, and the bytes of its record
 --     isSized, isRecord, stateOf           whether bytes are a record, and of which state
 --     numberFor, stored                    a state written into a buffer
 use Prim.Native.Nat.{ℕ, _+_, _*_, _/_, _%_}
-use mathlib.Core.Bool.{Bool, _&&_, cond}
+use mathlib.Core.Bool.{Bool, false, _&&_, cond}
 use mathlib.Core.List.{List, _++_}
 use lib.Dec.{eqb, ltb}
 use lib.ListN.{length, getD}
+use Rattle.bits.specs.Bits.{bit, word}
 use Rattle.state.specs.Below.{eachBelow}
 use Rattle.state.specs.Tabulate.{tabulate}
 use Rattle.state.specs.Cells.{width}
-use Rattle.state.specs.Site.{Kind, user, area, object, limit, listed, siteOf, empty}
-use Rattle.state.specs.Site.{Relation, owner, definition, structure, import, export, firstKind, related}
+use Rattle.state.specs.Site.{Kind, user, area, object, limit, siteOf, empty}
+use Rattle.state.specs.Site.{Relation, owner, definition, structure, import, export, firstKind}
 use Rattle.state.specs.Site.{Site}
 
--- users 32, areas 32, objects 64: where the byte of number 0 stands
+-- users 4 bytes, areas 4, objects 8: where that of number 0 stands
 abbrev pub listStart : Kind → ℕ
 listStart user = 0
-listStart area = 32
-listStart object = 64
+listStart area = 4
+listStart object = 8
 
--- owners 1,024, definitions 2,048, structure 1,024, imports 2,048, exports 2,048: where the byte of the pair (0, 0)
--- stands; that of (i, j) is i * 32 + j bytes further
+-- owners 128, definitions 256, structure 128, imports 256, exports 256: where row 0 stands; row i stands 4 * i further
 abbrev pub pairStart : Relation → ℕ
-pairStart owner = 128
-pairStart definition = 1152
-pairStart structure = 3200
-pairStart import = 4224
-pairStart export = 6272
+pairStart owner = 16
+pairStart definition = 144
+pairStart structure = 400
+pairStart import = 528
+pairStart export = 784
 
--- 8,320 bytes in all
+-- 1,040 bytes in all
 abbrev pub recordSize : ℕ
-recordSize = 8320
+recordSize = 1040
 
 -- ---- the record of a state
-abbrev pub bit : Bool → ℕ
-bit v = cond v 1 0
+-- the places of a state in this order: users, areas, objects; owners (user * 32 + area), definitions (object * 32 +
+-- area), structure (inner * 32 + outer), imports and exports (object * 32 + area)
+abbrev pub places : Site → List Bool
+places s = s .users ++ s .areas ++ s .objects ++ s .owners ++ s .definitions ++ s .structure ++ s .imports ++ s .exports
 
--- one byte for each number that may be listed
-abbrev pub listByte : Site → Kind → ℕ → ℕ
-listByte s k i = bit (listed s k i)
+-- byte p of so many places: bit k of it is place p * 8 + k
+abbrev pub byteOf : List Bool → ℕ → ℕ
+byteOf cells p = word 8 (λ k. getD cells (p * 8 + k) false)
 
-abbrev pub listBytes : Site → Kind → List ℕ
-listBytes s k = tabulate (limit k) (listByte s k)
+-- their first n bytes
+unfoldable pub bytesOfPlaces : (n : ℕ) → List Bool → List ℕ
+bytesOfPlaces n cells = tabulate n (byteOf cells)
 
--- one byte for each pair that may be there: byte p is that of (p / 32, p % 32), so the byte of (i, j) is byte
--- i * 32 + j
-abbrev pub pairByte : Site → Relation → ℕ → ℕ
-pairByte s r p = bit (related s r (p / width) (p % width))
-
-abbrev pub pairBytes : Site → Relation → List ℕ
-pairBytes s r = tabulate (limit (firstKind r) * width) (pairByte s r)
-
--- the places in the header's order: users, areas, objects; owners (user * 32 + area), definitions (object * 32 + area),
--- structure (inner * 32 + outer), imports and exports (object * 32 + area)
 unfoldable pub bytesOf : Site → List ℕ
-bytesOf s =
-    listBytes s user ++ listBytes s area ++ listBytes s object
-    ++ pairBytes s owner ++ pairBytes s definition ++ pairBytes s structure ++ pairBytes s import ++ pairBytes s export
+unfolding bytesOfPlaces
+bytesOf s = bytesOfPlaces recordSize (places s)
 
 -- ---- the state of a record
 -- as many bytes as a record has
 abbrev pub isSized : (bytes : List ℕ) → Bool
 isSized bytes = eqb (length bytes) recordSize
 
--- byte k is 0 or 1
-abbrev pub isBit : (bytes : List ℕ) → ℕ → Bool
-isBit bytes k = ltb (getD bytes k 0) 2
+-- entry k is a byte
+abbrev pub isByte : (bytes : List ℕ) → ℕ → Bool
+isByte bytes k = ltb (getD bytes k 0) 256
 
--- as many bytes as a record has, each 0 or 1
+-- As many bytes as a record has. That each is one the type of a buffer says in the code; the lists that stand for
+-- buffers here do not.
 unfoldable pub isRecord : (bytes : List ℕ) → Bool
-isRecord bytes = isSized bytes && eachBelow (length bytes) (isBit bytes)
+isRecord bytes = isSized bytes && eachBelow (length bytes) (isByte bytes)
 
--- place i behind `at` holds something: its byte is 1
+-- place i behind byte `at` holds something
 abbrev pub isSet : (bytes : List ℕ) (at i : ℕ) → Bool
-isSet bytes at i = eqb (getD bytes (at + i) 0) 1
+isSet bytes at i = bit (getD bytes (at + i / 8) 0) (i % 8)
 
--- the n places from `at` on
+-- the n places from byte `at` on
 abbrev pub cellsAt : (bytes : List ℕ) (at n : ℕ) → List Bool
 cellsAt bytes at n = tabulate n (isSet bytes at)
 

@@ -1,26 +1,34 @@
 -- The checks 8 to 11 of an instruction, read off the state that it would give: no area or owner is left, some pair
 -- still names the area.
 -- Assumes nothing.
-use Prim.Native.Nat.{ℕ}
+use Prim.Native.Nat.{ℕ, _<_}
 use mathlib.Core.Path.{_≡_, refl, sym, ap, subst, _∙_}
-use mathlib.Core.Logic.{_↔_}
+use mathlib.Core.Logic.{_⊎_, inl, inr, _↔_}
 use mathlib.Core.Bool.{Bool, true, false, _&&_, _||_, not, cond}
 use mathlib.Core.List.{List, [], _∷_, _++_}
 use lib.Dec.{T, eqb}
+use native.Mathlib.Decide.{ℕ-discrete}
 use borrow.Author.Tests.{eqb-true, eq-eqb}
-use Rattle.state.specs.Site.{user, area, owner, structure, listed, withListed, withPair, owns, Shaped}
+use Rattle.state.specs.Site.{user, area, object, limit, Relation, owner, definition, structure, import, export, firstKind}
+use Rattle.state.specs.Site.{listed, withListed, withPair, owns, imports, exports, Shaped}
 use Rattle.state.specs.Walk.{someMember, somePair, hasFirst, hasSecond}
 use Rattle.state.specs.Site.{Site}
-use Rattle.state.proofs.Bools.{is-true, holds, and-both, and-left, and-right, not-so, so-not, same-test, fails-both}
-use Rattle.state.proofs.Laws.{listed-other, unlist-adds-none, unlisted-gone, list-shaped, relate-shaped, remove-adds-none, removed-gone, others-stay, some-member, some-pair, has-second}
-use Rattle.soundness.specs.Tests.{someListed}
-use Rattle.soundness.proofs.Laws.{some-decided}
+use Rattle.state.proofs.Bools.{is-true, holds, or-left, or-right, or-cases, and-both, and-left, and-right, not-so, so-not, same-test, implied, implies, fails-both}
+use Rattle.state.proofs.Below.{each-at, each-by}
+use Rattle.state.proofs.Laws.{listed-other, unlist-adds-none, unlisted-gone, list-shaped, relate-shaped, remove-adds-none, removed-gone, others-stay, some-member, some-pair, has-second, pair-area}
+use Rattle.access.specs.Lending.{Lending, lending}
+use Rattle.access.specs.Answer.{access}
+use Rattle.access.proofs.Laws.{other-pairs}
+use Rattle.soundness.specs.Sound.{Valid, Sound}
+use Rattle.soundness.specs.Tests.{someListed, isValid}
+use Rattle.soundness.proofs.Laws.{some-decided, valid-decided}
+use Rattle.validity.specs.Parts.{validFor}
 use Rattle.successors.specs.Successor.{withoutOwner, changed}
 use Rattle.state.specs.Checks.{Check, _when_, firstMet}
 use Rattle.readings.specs.declared.Seen.{Seen}
 use Rattle.refusals.specs.Refusals.{soleOwner, onlyArea, otherOwner, earlyChecks, lateChecks}
 use Rattle.refusals.specs.Claims
-use Rattle.refusals.specs.Parts.{resultChecks}
+use Rattle.refusals.specs.Parts.{cutsAccess, resultChecks}
 use Rattle.instructions.specs.declared.Rule.{Rule}
 use Rattle.instructions.specs.declared.Lookup.the-variants.{NoLookup}
 use Rattle.instructions.specs.declared.MustOwn.the-variants.{OwnsNothing}
@@ -32,7 +40,62 @@ use Rattle.state.proofs.Checks.{first-of-two}
 adding-or-not : Target → Bool → Rule
 adding-or-not k v = record { adds = v; target = k; lookup = NoLookup; ownership = OwnsNothing }
 
-module _ (s : Site) (shaped : Shaped s) where
+-- ---- validity of one object
+-- where all pairs have access, those of an object do
+valid-for : (t : Site) (o : ℕ) → isValid t ≡ true → validFor t o ≡ true
+unfolding validFor
+valid-for t o e =
+    let v = valid-decided t .0 (holds e) in
+    is-true (validFor t o) (each-by _ (limit area) (λ a h. implied (imports t o a || exports t o a) (access (lending t o) a) (λ p. at v a (or-cases (imports t o a) (exports t o a) p))))
+  where
+    at : Valid t → (a : ℕ) → T (imports t o a) ⊎ T (exports t o a) → T (access (lending t o) a)
+    at v a (inl p) = v .imported o a p
+    at v a (inr p) = v .exported o a p
+
+-- so no remove that leads to a valid state cuts access
+pub valid-cuts-none : (t : Site) (k : Target) (b : ℕ) → isValid t ≡ true → cutsAccess t k b ≡ false
+valid-cuts-none t TheArea b e = refl
+valid-cuts-none t Owner b e = refl
+valid-cuts-none t Definition b e = ap not (valid-for t b e)
+valid-cuts-none t Structure b e = ap not e
+valid-cuts-none t Import b e = ap not (valid-for t b e)
+valid-cuts-none t Export b e = ap not (valid-for t b e)
+
+-- a state that has the pairs of a valid one but for those of object b, or fewer, and in which the access of others is as it was
+module _ (s t : Site) (valid : Valid s) (b : ℕ)
+    (imported : (o a : ℕ) → T (imports t o a) → T (imports s o a)) (exported : (o a : ℕ) → T (exports t o a) → T (exports s o a))
+    (others : (o : ℕ) → (o ≡ b → ⊥) → lending t o ≡ lending s o) where
+  by-object : isValid t ≡ validFor t b
+  unfolding validFor
+  by-object = same-test (isValid t) (validFor t b) (λ p. holds (valid-for t b (is-true (isValid t) p))) (λ p. valid-decided t .1 (record { imported = λ o a q. entry o a (ℕ-discrete o b) p (or-left (imports t o a) (exports t o a) q) (λ n. valid .imported o a (imported o a q)); exported = λ o a q. entry o a (ℕ-discrete o b) p (or-right (imports t o a) (exports t o a) q) (λ n. valid .exported o a (exported o a q)) }))
+    where
+      inside : (o a : ℕ) → T (imports t o a || exports t o a) → a < limit area
+      inside o a q = go (or-cases (imports t o a) (exports t o a) q)
+        where
+          go : T (imports t o a) ⊎ T (exports t o a) → a < limit area
+          go (inl p) = pair-area (t .imports) o a p
+          go (inr p) = pair-area (t .exports) o a p
+
+      entry : (o a : ℕ) → Dec (o ≡ b) → T (validFor t b) → T (imports t o a || exports t o a) → (Unit {0} → T (access (lending s o) a)) → T (access (lending t o) a)
+      entry o a (yes e) p q before =
+          implies (imports t o a || exports t o a) (access (lending t o) a) (rw (sym e) at (each-at (λ x. not (imports t b x || exports t b x) || access (lending t b) x) (limit area) p a (inside o a q))) q
+      entry o a (no e) p q before = subst (λ (l : Lending). T (access l a)) (sym (others o e)) (before tt)
+
+module _ (s : Site) (sound : Sound s) where
+  shaped : Shaped s
+  shaped = sound .shaped
+
+  -- a removed definition, import or export bears the access of its object alone
+  object-cut : (r : Relation) (a b : ℕ) → firstKind r ≡ object → isValid (withPair s r b a false) ≡ validFor (withPair s r b a false) b
+  object-cut r a b e =
+      by-object s (withPair s r b a false) (sound .valid) b (λ o x. remove-adds-none s r import b a o x) (λ o x. remove-adds-none s r export b a o x)
+      (λ o n. other-pairs s r b a false o (inr (e, n)))
+
+  definition-cut : (a b : ℕ) → isValid (withPair (withListed s object b false) definition b a false) ≡ validFor (withPair (withListed s object b false) definition b a false) b
+  definition-cut a b =
+      by-object s (withPair (withListed s object b false) definition b a false) (sound .valid) b (λ o x p. p) (λ o x p. p)
+      (λ o n. other-pairs (withListed s object b false) definition b a false o (inr (refl, n)))
+
   -- some other user owns area a: without user u's pair it still has an owner
   others-left : (u a : ℕ) (test : ℕ → ℕ → Bool) → ((v c : ℕ) → T (test v c) ↔ ((c ≡ a) × (v ≡ u → ⊥)))
       → somePair (s .owners) test ≡ hasSecond (withPair s owner u a false .owners) a
@@ -113,25 +176,25 @@ module _ (s : Site) (shaped : Shaped s) where
   same-by Owner true u a b = refl
   same-by Owner false u a b = λ i. (8 when sole-owner b a i) ∷ (9 when false) ∷ (10 when false) ∷ (11 when false) ∷ []
   same-by Definition true u a b = refl
-  same-by Definition false u a b = refl
+  same-by Definition false u a b = λ i. (8 when false) ∷ (9 when false) ∷ (10 when false) ∷ (11 when not (definition-cut a b i)) ∷ []
   same-by Structure true u a b = refl
   same-by Structure false u a b = refl
   same-by Import true u a b = refl
-  same-by Import false u a b = refl
+  same-by Import false u a b = λ i. (8 when false) ∷ (9 when false) ∷ (10 when false) ∷ (11 when not (object-cut import a b refl i)) ∷ []
   same-by Export true u a b = refl
-  same-by Export false u a b = refl
+  same-by Export false u a b = λ i. (8 when false) ∷ (9 when false) ∷ (10 when false) ∷ (11 when not (object-cut export a b refl i)) ∷ []
 
 pub late-by-result : Claims.LateByResult
 unfolding adding-or-not
-late-by-result s shaped r u a b = same-by s shaped (r .target) (r .adds) u a b
+late-by-result s sound r u a b = same-by s sound (r .target) (r .adds) u a b
 
 -- the number of a rule's checks, from the two parts: those of what is seen, and those of the state that it would give
-pub checks-in-two : (s : Site) → Shaped s → (v : Seen) (r : Rule) (u a b : ℕ)
+pub checks-in-two : (s : Site) → Sound s → (v : Seen) (r : Rule) (u a b : ℕ)
     → firstMet (earlyChecks v r ++ lateChecks s r u a b)
     ≡ cond (eqb (firstMet (earlyChecks v r)) 0)
     (firstMet (resultChecks (changed s (r .target) (r .adds) u a b) (r .target) (r .adds) a b))
     (firstMet (earlyChecks v r))
-checks-in-two s shaped v r u a b =
+checks-in-two s sound v r u a b =
     first-of-two (earlyChecks v r) (lateChecks s r u a b) tt
     ∙ ap (λ (l : List Check). cond (eqb (firstMet (earlyChecks v r)) 0) (firstMet l) (firstMet (earlyChecks v r)))
-    (late-by-result s shaped r u a b)
+    (late-by-result s sound r u a b)

@@ -10,9 +10,10 @@ use Rattle.readings.specs.Readings.{namesArea}
 use Rattle.access.specs.Lending.{lending}
 use Rattle.access.specs.Answer.{access}
 use Rattle.soundness.specs.Tests.{someListed, isValid}
+use Rattle.validity.specs.Parts.{validFor}
 use Rattle.instructions.specs.declared.Target.{Target}
 use Rattle.instructions.specs.declared.Target.the-variants.{TheArea, Owner, Definition, Structure, Import, Export}
-use Rattle.refusals.specs.Refusals.{isEntry, bearsAccess}
+use Rattle.refusals.specs.Refusals.{isEntry}
 
 -- a table of numbers and conditions
 abbrev pub rowsOf : List ℕ → List Bool → List Check
@@ -37,11 +38,21 @@ stillNamed t Structure a = false
 stillNamed t Import a = false
 stillNamed t Export a = false
 
--- 8 to 11, after an add (v true) or a remove (v false)
+-- 11, where the state before was valid: a structure pair bears the access of every object, and a definition, import or
+-- export pair that of its own object b
+abbrev pub cutsAccess : Site → Target → ℕ → Bool
+cutsAccess t TheArea b = false
+cutsAccess t Owner b = false
+cutsAccess t Definition b = not (validFor t b)
+cutsAccess t Structure b = not (isValid t)
+cutsAccess t Import b = not (validFor t b)
+cutsAccess t Export b = not (validFor t b)
+
+-- 8 to 11, after an add (v true) or a remove (v false) in a sound state
 abbrev pub resultChecks : Site → Target → (v : Bool) → (a b : ℕ) → List Check
 resultChecks t target v a b =
     (8 when not v && noneLeft t target a)
     ∷ (9 when not v && stillNamed t target a)
     ∷ (10 when v && isEntry target && not (access (lending t b) a))
-    ∷ (11 when not v && bearsAccess target && not (isValid t))
+    ∷ (11 when not v && cutsAccess t target b)
     ∷ []

@@ -137,7 +137,7 @@ pub fn early_refusal(v: Seen, rule: Rule) -> u8
 fn has_access(s: State, a: u8, b: u8) -> bool
     ensures { λ r. ⌜ r ≡ access (lending (site s) b) a ⌝ }
 {
-    match access::steps(s, a, b) {
+    match search::steps(s, a, b) {
         Answer::Steps(_) => true,
         Answer::NoAccess => false,
     }
@@ -150,11 +150,19 @@ fn entry_refusal(t: State, a: u8, b: u8) -> u8
     if has_access(t, a, b) { 0 } else { 10 }
 }
 
-// The refusal of the removal of what access rests on: 11 if an import or export pair lacks access in the state t.
+// The refusal of a removed structure pair: 11 if an import or export pair lacks access in the state t.
 fn cut_refusal(t: State) -> u8
     ensures { λ r. ⌜ r ≡ firstMet (resultChecks (site t) Structure false 0 0) ⌝ }
 {
     if validity::is_valid(t) { 0 } else { 11 }
+}
+
+// The refusal of a removed definition, import or export of object b: 11 if an import or export pair of that object
+// lacks access in the state t. Other objects have the access that they had.
+fn object_refusal(t: State, b: u8) -> u8
+    ensures { λ r. ⌜ r ≡ firstMet (resultChecks (site t) Import false 0 b) ⌝ }
+{
+    if validity::is_valid_for(t, b) { 0 } else { 11 }
 }
 
 // The refusal of the removal of an owner: 8 if area a has none in the state t.
@@ -186,20 +194,20 @@ pub fn late_refusal(t: State, rule: Rule, a: u8, b: u8) -> u8
     match target {
         Target::TheArea => { if adds { 0 } else { unlist_refusal(t, a) } }
         Target::Owner => { if adds { 0 } else { disown_refusal(t, a) } }
-        Target::Definition => { if adds { 0 } else { cut_refusal(t) } }
+        Target::Definition => { if adds { 0 } else { object_refusal(t, b) } }
         Target::Structure => { if adds { 0 } else { cut_refusal(t) } }
         Target::Import => {
             if adds {
                 entry_refusal(t, a, b)
             } else {
-                cut_refusal(t)
+                object_refusal(t, b)
             }
         }
         Target::Export => {
             if adds {
                 entry_refusal(t, a, b)
             } else {
-                cut_refusal(t)
+                object_refusal(t, b)
             }
         }
     }

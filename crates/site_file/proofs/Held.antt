@@ -14,8 +14,8 @@ use Rattle.state.specs.Walk.{somePair, hasFirst, hasSecond}
 use Rattle.state.specs.Site.{Site}
 use Rattle.state.proofs.Bools.{and-both, and-left, and-right, is-true, is-false, fails, not-so, so}
 use Rattle.state.proofs.Laws.{some-pair, has-first, has-second, related-inside, empty-related, empty-shaped}
-use Rattle.rows.specs.Rows.{firsts, seconds}
-use Rattle.rows.proofs.Laws.{firsts-length, firsts-reads, seconds-length, seconds-reads}
+use Rattle.relations.specs.Relations.{firsts, seconds}
+use Rattle.relations.proofs.Laws.{firsts-length, firsts-reads, seconds-length, seconds-reads}
 use Rattle.soundness.specs.Sound.{Consistent, DefinedOnce, Acceptable, SomeArea, Sound}
 use Rattle.soundness.specs.Tests.{isConsistent, isValid, noOwnImport}
 use Rattle.soundness.proofs.Laws.{consistent-decided, valid-decided, no-own-import-decided}

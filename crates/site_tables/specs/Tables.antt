@@ -4,7 +4,7 @@ use mathlib.Core.List.{List}
 use Rattle.state.specs.Cells.{Pairs}
 use Rattle.state.specs.Site.{Site, Relation, owner, definition, structure, import, export, cells, siteOf, empty}
 use Rattle.state.specs.Site.{user, object, limit}
-use Rattle.rows.specs.Rows.{firsts, seconds}
+use Rattle.relations.specs.Relations.{firsts, seconds}
 use Rattle.pair_tables.specs.Pairs.{withPairs}
 
 -- a relation has the pairs of its table

@@ -18,7 +18,7 @@ use Rattle.state.specs.Laws
 use Rattle.state.specs.Site.{Site}
 use Rattle.state.proofs.Bools.{is-true, holds, fails, not-so, so-not, not-not}
 use Rattle.state.proofs.Walk.{some-found, some-there, count-within}
-use Rattle.state.proofs.Cells.{member-outside, mark-outside, length-mark, member-same, member-other, member-else, member-kept, member-removed, member-ext, mark-back, mark-as-is, pair-inside, pair-outside, pair-beyond, put-outside, put-past, length-put, put-back, pair-same, pair-other, pair-has-cell, same-or-other, pair-kept, pair-removed, no-member, no-pair, only-zero, only-zeros}
+use Rattle.state.proofs.Cells.{member-outside, mark-outside, length-mark, member-same, member-other, member-else, member-kept, member-removed, member-ext, mark-back, mark-as-is, pair-inside, pair-outside, pair-beyond, put-inside, put-outside, put-past, length-put, put-back, pair-same, pair-other, pair-has-cell, same-or-other, pair-kept, pair-removed, no-member, no-pair, only-zero, only-zeros}
 
 -- ---- one of several is written
 -- Things of K are told apart by a number. One of them, k, is written; this is what each, l, is afterwards.
@@ -179,6 +179,16 @@ member-cell c i = refl
 
 pub pair-cell : Laws.PairCell
 pair-cell c i j h = pair-inside c i j h
+
+pub mark-cell : Laws.MarkCell
+unfolding mark
+mark-cell c i v = refl
+
+pub put-cell : Laws.PutCell
+put-cell c i j v h = put-inside c i j v h
+
+pub put-beyond : Laws.PutBeyond
+put-beyond c i j v h = put-outside c i j v h
 
 pub pair-past : Laws.PairPast
 pair-past c i j (inl h) = pair-outside c i j h

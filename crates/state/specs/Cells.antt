@@ -4,7 +4,8 @@
 --     pair, put        read and write a relation
 -- Readings are total: what lies outside is not there. Writes are total: what lies outside changes nothing. How a set or
 -- a relation is kept is known in the files of this crate. Above it laws are used (Laws.antt); MemberCell, PairCell,
--- PairAt and PairPast say where a number or a pair lies, for functions that read the cells themselves.
+-- PairAt and PairPast say where a number or a pair lies, MarkCell, PutCell and PutBeyond what a write changes, for what
+-- keeps the cells otherwise: as rows of bits (`relations`), as bytes (`records`).
 use Prim.Native.Nat.{ℕ, _+_, _*_}
 use mathlib.Core.Bool.{Bool, false, _&&_, cond}
 use mathlib.Core.List.{List}

@@ -6,8 +6,8 @@ use mathlib.Core.Path.{_≡_}
 use mathlib.Core.Bool.{Bool, true, false, _&&_}
 use mathlib.Core.Logic.{_⊎_, _↔_}
 use lib.Dec.{T, eqb}
-use lib.ListN.{length, getD}
-use Rattle.state.specs.Cells.{Members, Pairs, width, member, pair, put}
+use lib.ListN.{length, getD, set}
+use Rattle.state.specs.Cells.{Members, Pairs, width, member, mark, pair, put}
 use Rattle.state.specs.Walk.{someMember, eachMember, somePair, eachPair, hasFirst, hasSecond}
 use Rattle.state.specs.Site.{Kind, user, area, object, limit, listed, withListed, Relation, owner, firstKind}
 use Rattle.state.specs.Site.{related, withPair, empty, founding, counts, Shaped}
@@ -116,7 +116,7 @@ PutOther = (c : Pairs) (i j m n : ℕ) (v : Bool) → (m ≡ i → n ≡ j → �
 abbrev pub PutLength : Type 0
 PutLength = (c : Pairs) (i j : ℕ) (v : Bool) → length (put c i j v) ≡ length c
 
--- ---- where a number or a pair lies, for what reads a set or a relation in place
+-- ---- where a number or a pair lies, for what reads or writes a set or a relation in place
 abbrev pub MemberCell : Type 0
 MemberCell = (c : Members) (i : ℕ) → member c i ≡ getD c i false
 
@@ -125,6 +125,15 @@ PairCell = (c : Pairs) (i j : ℕ) → j < width → pair c i j ≡ getD c (i * 
 
 abbrev pub PairPast : Type 0
 PairPast = (c : Pairs) (i j : ℕ) → (width ≤ j) ⊎ (length c ≤ i * width + j) → pair c i j ≡ false
+
+abbrev pub MarkCell : Type 0
+MarkCell = (c : Members) (i : ℕ) (v : Bool) → mark c i v ≡ set c i v
+
+abbrev pub PutCell : Type 0
+PutCell = (c : Pairs) (i j : ℕ) (v : Bool) → j < width → put c i j v ≡ set c (i * width + j) v
+
+abbrev pub PutBeyond : Type 0
+PutBeyond = (c : Pairs) (i j : ℕ) (v : Bool) → width ≤ j → put c i j v ≡ c
 
 -- the pair whose cell is k
 abbrev pub PairAt : Type 0

@@ -1,28 +1,27 @@
--- Not needed to believe a claim. What this crate's own functions promise each other, of the rows and relations that
--- they are handed.
+-- Validity of one object; and, not needed to believe a claim, what this crate's own functions promise each other, of the
+-- rows that they are handed.
 use Prim.Native.Nat.{ℕ}
 use mathlib.Core.Bool.{Bool, _||_, not}
-use mathlib.Core.List.{List}
-use lib.Dec.{eqb}
 use lib.ListN.{getD}
+use Rattle.bits.specs.Bits.{bit, union, isSubset}
+use Rattle.bits.specs.Rows.{Rows, cellsOf}
 use Rattle.state.specs.Below.{eachBelow}
-use Rattle.state.specs.Cells.{Pairs}
-use Rattle.state.specs.Site.{object, limit}
-use Rattle.rows.specs.Rows.{row}
-use Rattle.access.specs.Lending.{lendingOf}
-use Rattle.access.specs.Answer.{Areas, has, unreached, leastCounts}
+use Rattle.state.specs.Site.{Site, area, limit, imports, exports}
+use Rattle.access.specs.Lending.{lending}
+use Rattle.access.specs.Answer.{access}
+use Rattle.search.specs.Rounds.{moveBy, reachable}
 
--- if the area imports or exports the object, it has a count
-abbrev pub cellReached : (imported exported : Areas) (counts : List ℕ) → ℕ → Bool
-cellReached imported exported counts a = not (has imported a || has exported a) || not (eqb (getD counts a 0) unreached)
+-- "for each import or export pair the area has access to the object", of the pairs of object o
+unfoldable pub validFor : Site → ℕ → Bool
+validFor s o = eachBelow (limit area) (λ a. not (imports s o a || exports s o a) || access (lending s o) a)
 
--- each area that imports or exports object o has a count
-unfoldable pub objectReached : (definitions structure imports exports : Pairs) → ℕ → Bool
-objectReached definitions structure imports exports o =
-    eachBelow 32 (cellReached (row imports o) (row exports o)
-    (leastCounts (lendingOf definitions structure imports exports o)))
+-- the areas that import or export an object are among those that it reaches
+unfoldable pub reachesEach : (defined : ℕ) (structure transposed : Rows) (imported exported : ℕ) → Bool
+reachesEach defined structure transposed imported exported =
+    isSubset (union imported exported)
+    (reachable (bit defined) (moveBy (cellsOf structure) (cellsOf transposed) (bit imported) (bit exported)))
 
--- the same for all 64 objects
-abbrev pub objectsReached : (definitions structure imports exports : Pairs) → Bool
-objectsReached definitions structure imports exports =
-    eachBelow (limit object) (objectReached definitions structure imports exports)
+-- so it is for object o
+abbrev pub objectValid : (definitions structure transposed imports exports : Rows) → ℕ → Bool
+objectValid definitions structure transposed imports exports o =
+    reachesEach (getD definitions o 0) structure transposed (getD imports o 0) (getD exports o 0)

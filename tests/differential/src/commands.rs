@@ -111,7 +111,7 @@ fn one_list(shape: Shape, chance: &mut Chance, seen: &mut Seen) {
     for _ in 0..1 + chance.below(LONGEST_LIST) {
         list.one_more(owners_speak, chance, seen);
     }
-    let site = Site::of_state(list.start.clone());
+    let site = Site::of_state(&list.start);
     let Some(answer) = seen.compare(&Case::commands(&site, &list.commands)) else {
         return;
     };

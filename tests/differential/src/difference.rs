@@ -2,23 +2,13 @@
 
 use crate::answer::Answer;
 use crate::case::Case;
+use crate::places::{bit, meaning, PLACES};
 use crate::text::state_text;
 use reference::RECORD_BYTES;
+use std::fmt::Display;
 
 /// So many differing places are named.
 const NAMED: usize = 8;
-
-/// The parts of a record: what a place stands for, the first place, and the first behind them.
-const PARTS: [(&str, usize, usize); 8] = [
-    ("user", 0, 32),
-    ("area", 32, 64),
-    ("object", 64, 128),
-    ("owner", 128, 1152),
-    ("definition", 1152, 3200),
-    ("structure", 3200, 4224),
-    ("import", 4224, 6272),
-    ("export", 6272, RECORD_BYTES),
-];
 
 pub fn difference_text(case: &Case, library: &Answer, reference: &Answer) -> String {
     let mut text = format!("  tests/differential.sh replay '{case}'\n");
@@ -63,23 +53,30 @@ fn bytes_difference(case: &Case, library: &[u8], reference: &[u8]) -> String {
     if library.len() != reference.len() {
         return format!("{} bytes and {} bytes", library.len(), reference.len());
     }
-    let differing = (0..library.len()).filter(|&place| library[place] != reference[place]);
-    let name = |place: usize| match library.len() {
-        RECORD_BYTES => place_name(place),
-        _ => format!("byte {place}"),
+    let named: Vec<String> = match library.len() {
+        RECORD_BYTES => {
+            let of_both = |place: usize| [bit(library, place), bit(reference, place)];
+            let differing = differing(PLACES, of_both);
+            differing.map(|(place, both)| text(meaning(place), both)).collect()
+        }
+        length => {
+            let differing = differing(length, |byte| [library[byte], reference[byte]]);
+            differing
+                .map(|(byte, both)| text(format!("byte {byte}"), both))
+                .collect()
+        }
     };
-    let text = |place: usize| format!("{}: {} and {}", name(place), library[place], reference[place]);
-    differing.map(text).take(NAMED).collect::<Vec<_>>().join("; ")
+    named.join("; ")
 }
 
-/// What a place of a record stands for.
-fn place_name(place: usize) -> String {
-    let part = PARTS.iter().find(|part| place < part.2);
-    let (name, start, _) = part.expect("a place of a record");
-    match place - start {
-        number if *start < 128 => format!("{name} {number}"),
-        number => format!("{name} ({}, {})", number / 32, number % 32),
-    }
+/// The first places below the limit where what both sides have is not the same, and what they have.
+fn differing(limit: usize, of_both: impl Fn(usize) -> [u8; 2]) -> impl Iterator<Item = (usize, [u8; 2])> {
+    let places = (0..limit).map(move |place| (place, of_both(place)));
+    places.filter(|(_, [one, other])| one != other).take(NAMED)
+}
+
+fn text(name: impl Display, [library, reference]: [u8; 2]) -> String {
+    format!("{name}: {library} and {reference}")
 }
 
 /// The first line that differs, and the line of the input with the same number.

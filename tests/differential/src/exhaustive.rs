@@ -23,7 +23,7 @@ pub fn run(plan: &Plan) -> (String, Seen) {
     let small = reference::small_states();
     let (accepted, mut seen) = sound_by_library(plan);
     seen.demand(accepted == small, &not_the_same(&accepted, &small));
-    let sites: Vec<Site> = small.into_iter().map(Site::of_state).collect();
+    let sites: Vec<Site> = small.iter().map(Site::of_state).collect();
     let asked = plan.run("exhaustive", |shard, _, seen| {
         for site in sites.iter().skip(shard).step_by(plan.shards()) {
             every_instruction(site, seen);
@@ -71,7 +71,7 @@ fn sound_by_library(plan: &Plan) -> (BTreeSet<State>, Seen) {
     let accepted: Mutex<BTreeSet<State>> = Mutex::default();
     let seen = plan.run("records", |shard, _, seen| {
         for places in (shard as u32..1 << PLACES).step_by(plan.shards()) {
-            let site = Site::of_state(state_of(places));
+            let site = Site::of_state(&state_of(places));
             seen.compare(&Case::step(&site, library::NO_INSTRUCTION));
             if library::is_sound(&site.record) {
                 accepted.lock().expect("no shard has failed").extend(site.state);
@@ -132,7 +132,7 @@ fn every_instruction(site: &Site, seen: &mut Seen) {
 pub fn with_own_import(site: &Site) -> Option<Site> {
     let mut state = site.state.clone()?;
     state.imports.insert(*state.definitions.first()?);
-    Some(Site::of_state(state))
+    Some(Site::of_state(&state))
 }
 
 /// Every instruction and question over the numbers that can be listed.

@@ -98,7 +98,7 @@ fn every_pair(firsts: u8) -> Pairs {
 }
 
 /// Every pair that a relation can have, but for own imports; only what is defined where is left to choose.
-fn largest(chance: &mut Chance) -> (State, Labels) {
+pub fn largest(chance: &mut Chance) -> (State, Labels) {
     let mut state = State {
         users: (0..32).collect(),
         areas: (0..32).collect(),

@@ -75,7 +75,7 @@ fn one_list(shape: Shape, chance: &mut Chance, seen: &mut Seen) {
             seen.count("silent area with entries", 0);
         }
     }
-    let site = Site::of_state(start.clone());
+    let site = Site::of_state(&start);
     let Some(answer) = seen.compare(&Case::list(&site, &list)) else {
         return;
     };

@@ -8,7 +8,7 @@ use reference::Call;
 const GUARD_BYTES: usize = 37;
 const GUARD: u8 = 0x5a;
 
-/// What a buffer holds before a call that is to write it: neither 0 nor 1, so that every byte left alone shows.
+/// What a buffer holds before a call that is to write it: few records have such a byte, so that one left alone shows.
 pub const UNWRITTEN: u8 = 0xaa;
 
 /// A buffer between guard bytes.

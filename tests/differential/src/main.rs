@@ -8,6 +8,7 @@
 
 mod aimed;
 mod answer;
+mod asked;
 mod basics;
 mod borders;
 mod byte_damage;
@@ -27,10 +28,16 @@ mod library;
 mod lines;
 mod misformed;
 mod numbers;
+mod old_records;
+mod one_bit;
+mod other_lengths;
 mod own_imports;
+mod places;
 mod program;
 mod random;
+mod random_bytes;
 mod recipes;
+mod records;
 mod seen;
 mod shards;
 mod site;
@@ -54,10 +61,12 @@ const USUAL_SEED: u64 = 20_260_101;
 
 type Part = fn(&Plan) -> (String, Seen);
 
-const PARTS: [(&str, Part); 8] = [
+const PARTS: [(&str, Part); 10] = [
     ("basics", basics::run),
     ("exhaustive", exhaustive::run),
     ("random", random::run),
+    ("records", records::run),
+    ("old-records", old_records::run),
     ("recipes", recipes::run),
     ("files", files::run),
     ("program", program::run),

@@ -28,12 +28,12 @@ pub fn has_own(state: &State) -> bool {
 
 /// The same of the record of a state.
 pub fn are_in_record(record: &[u8]) -> bool {
-    let places = |start: usize| record.get(start..start + 2048).unwrap_or_default();
-    let (definitions, imports) = (places(1152), places(4224));
+    let rows = |start: usize| record.get(start..start + 256).unwrap_or_default();
+    let (definitions, imports) = (rows(144), rows(528));
     definitions
         .iter()
         .zip(imports)
-        .any(|(defined, imported)| defined & imported == 1)
+        .any(|(defined, imported)| defined & imported != 0)
 }
 
 /// Is it unsound by nothing but own imports?
@@ -124,7 +124,7 @@ pub fn one_record(chance: &mut Chance, seen: &mut Seen) {
     let of_each_code = (1..=12).map(|code| of_code(code, &state, &Domain::whole(&users), chance));
     let instructions: Vec<[u8; 4]> = of_each_code.collect();
     let removal = [10, chance.pick(&firsts_with(&state.owners, area)), area, object];
-    let site = Site::of_state(state);
+    let site = Site::of_state(&state);
     for instruction in instructions {
         if let Some(answer) = seen.compare(&Case::step(&site, instruction)) {
             seen.count(

@@ -1,4 +1,4 @@
-//! Random steps over random states, each accepted add taken back, and records that are none or not sound.
+//! Random steps over random states, each accepted add taken back, and states that are not sound.
 
 use crate::aimed;
 use crate::borders;
@@ -8,12 +8,12 @@ use crate::numbers::{free, members, seconds_with, some, widened, STEP_ANSWERS};
 use crate::own_imports;
 use crate::seen::Seen;
 use crate::shards::Plan;
-use crate::site::{Site, OTHER_LENGTHS};
+use crate::site::Site;
 use crate::states::{sound_state, Shape};
 use crate::taking_back;
 use crate::unsound::{one_step_too_far, turned};
 use chance::Chance;
-use reference::{State, RECORD_BYTES};
+use reference::State;
 
 /// For each shape, how many walks a shard has, and how many steps each of them. Dense states are dear in the reference.
 const WALKS: [(Shape, usize, usize); 6] = [
@@ -47,12 +47,10 @@ const QUESTIONS: usize = 4;
 /// How many definitions of a shard go from one area to another.
 const MOVED: usize = 60;
 
-/// How many records a shard has with some places turned, with an entry at 9 steps, with an own import, and of another
-/// length.
+/// How many records a shard has with some places turned, with an entry at 9 steps, and with an own import.
 const TURNED: usize = 2000;
 const TOO_FAR: usize = 200;
 const OWN: usize = 60;
-const MISSIZED: usize = 200;
 
 const UNSOUND: u32 = 12;
 
@@ -78,17 +76,15 @@ const ANSWERS: [(u32, &[u32]); 12] = [
 pub fn run(plan: &Plan) -> (String, Seen) {
     let mut seen = plan.run("random", |_, chance, seen| {
         for (shape, walks, steps) in WALKS {
-            (0..walks).for_each(|_| walk(sound_state(shape, chance), steps, chance, seen));
+            (0..walks).for_each(|_| walk(&sound_state(shape, chance), steps, chance, seen));
         }
         (0..AIMED).for_each(|_| aimed_steps(chance, seen));
         (0..MOVED).for_each(|_| moved_definition(chance, seen));
         (0..TURNED).for_each(|_| turned_record(chance, seen));
         (0..TOO_FAR).for_each(|_| too_far_record(chance, seen));
         (0..OWN).for_each(|_| own_imports::one_record(chance, seen));
-        (0..MISSIZED).for_each(|_| missized_record(chance, seen));
-        every_place(chance, seen);
         for (shape, states) in QUESTIONED {
-            (0..states).for_each(|_| every_question(sound_state(shape, chance), seen));
+            (0..states).for_each(|_| every_question(&sound_state(shape, chance), seen));
         }
         (0..TRIED).for_each(|_| tried_adds(chance, seen));
     });
@@ -168,7 +164,7 @@ fn about_own_imports(seen: &Seen) -> String {
 }
 
 /// Steps one after the other, each in the state that the one before it left, and access questions at the end.
-fn walk(start: State, steps: usize, chance: &mut Chance, seen: &mut Seen) {
+fn walk(start: &State, steps: usize, chance: &mut Chance, seen: &mut Seen) {
     let mut site = Site::of_state(start);
     for _ in 0..steps {
         let Some(state) = &site.state else { return };
@@ -205,7 +201,7 @@ fn moved_definition(chance: &mut Chance, seen: &mut Seen) {
     let one = areas.swap_remove(chance.below(areas.len()));
     let Some(other) = some(&areas, chance) else { return };
     let object = chance.pick(&free(&members(&state.objects), 64));
-    let mut site = Site::of_state(state);
+    let mut site = Site::of_state(&state);
     for (code, area) in [(7, one), (9, other), (9, one), (10, other), (8, one)] {
         step_on(&mut site, [code, user, area, object], seen);
     }
@@ -221,7 +217,7 @@ fn moved_definition(chance: &mut Chance, seen: &mut Seen) {
 fn aimed_steps(chance: &mut Chance, seen: &mut Seen) {
     let state = sound_state(chance.pick(&[Shape::Chain, Shape::BothWays]), chance);
     let users = members(&state.users);
-    let site = Site::of_state(state.clone());
+    let site = Site::of_state(&state);
     for _ in 0..AIMED_STEPS {
         let Some(instruction) = aimed::instruction(&state, &users, chance) else {
             continue;
@@ -237,7 +233,7 @@ fn aimed_steps(chance: &mut Chance, seen: &mut Seen) {
 fn tried_adds(chance: &mut Chance, seen: &mut Seen) {
     let shape = chance.pick(&[Shape::Sparse, Shape::Medium, Shape::Chain, Shape::Ring]);
     let state = sound_state(shape, chance);
-    let site = Site::of_state(state.clone());
+    let site = Site::of_state(&state);
     for _ in 0..TRIED_STEPS {
         let lendings = [9, 11].map(|code| taking_back::lending(&state, code, chance));
         let owner = taking_back::listed_owner(&state, chance);
@@ -303,7 +299,7 @@ fn turned_record(chance: &mut Chance, seen: &mut Seen) {
     };
     let state = turned(&sound_state(shape, chance), chance);
     let instruction = instruction_of_anyone(&state, chance);
-    step_and_question(&Site::of_state(state), instruction, chance, seen);
+    step_and_question(&Site::of_state(&state), instruction, chance, seen);
 }
 
 /// A state with nothing wrong but an import or export at 9 steps, in a step and in a question.
@@ -314,7 +310,7 @@ fn too_far_record(chance: &mut Chance, seen: &mut Seen) {
     };
     let is_too_far = borders::is_one_step_too_far(&state);
     let [code, user, area, object] = instruction_of_anyone(&state, chance);
-    let site = Site::of_state(state);
+    let site = Site::of_state(&state);
     let step = taking_back::step(&site, [code, user, area, object], seen);
     let question = seen.compare(&Case::access(&site, area.into(), object.into()));
     for answer in [step, question].into_iter().flatten().filter(|_| is_too_far) {
@@ -322,32 +318,8 @@ fn too_far_record(chance: &mut Chance, seen: &mut Seen) {
     }
 }
 
-/// A sound record that goes on for too long, or ends too early.
-fn missized_record(chance: &mut Chance, seen: &mut Seen) {
-    let state = sound_state(Shape::Sparse, chance);
-    let instruction = instruction_of_anyone(&state, chance);
-    let length = chance.pick(&OTHER_LENGTHS);
-    let record = reference::to_record(&state).into_iter().cycle().take(length).collect();
-    step_and_question(&Site::of_bytes(record), instruction, chance, seen);
-}
-
-/// One record with each of its places turned in turn, and then with a byte above 1 in each.
-fn every_place(chance: &mut Chance, seen: &mut Seen) {
-    let shape = chance.pick(&[Shape::Sparse, Shape::Ring, Shape::Chain, Shape::Medium]);
-    let state = sound_state(shape, chance);
-    let record = reference::to_record(&state);
-    for place in 0..RECORD_BYTES {
-        for byte in [1 - record[place], 2 + chance.below(254) as u8] {
-            let mut other = record.clone();
-            other[place] = byte;
-            let instruction = instruction_of_anyone(&state, chance);
-            step_and_question(&Site::of_bytes(other), instruction, chance, seen);
-        }
-    }
-}
-
 /// The access question for every area and object, and the first number beyond the limits.
-fn every_question(state: State, seen: &mut Seen) {
+fn every_question(state: &State, seen: &mut Seen) {
     let site = Site::of_state(state);
     seen.count("questioned states", 0);
     for area in 0..=32 {

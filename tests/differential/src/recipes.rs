@@ -6,6 +6,7 @@ use crate::courses::Course;
 use crate::instructions::instruction_of_anyone;
 use crate::misformed::{self, Operand, Way, LENGTHS};
 use crate::numbers::{free, members, some, RECIPE_ANSWERS};
+use crate::places::{turn, PLACES};
 use crate::seen::Seen;
 use crate::shards::Plan;
 use crate::site::{Site, OTHER_LENGTHS};
@@ -15,7 +16,7 @@ use crate::templates::{self, Recipe, MOST};
 use crate::unsound::turned;
 use crate::wanted::NUMBERS;
 use chance::Chance;
-use reference::{State, RECORD_BYTES};
+use reference::State;
 use std::iter::repeat_n;
 use std::ops::RangeInclusive;
 
@@ -154,7 +155,7 @@ fn one_state(shape: Shape, round: usize, chance: &mut Chance, seen: &mut Seen) {
     let start = sound_state(shape, chance);
     let activator = chance.pick(&members(&start.users));
     let course = Course::new(start, activator, MOST, chance);
-    let site = Site::of_state(course.states[0].clone());
+    let site = Site::of_state(&course.states[0]);
     let mut answered = Vec::new();
     let length = course.instructions.len();
     let shorter: Vec<usize> = (0..SHORTER).map(|_| 1 + chance.below(length)).collect();
@@ -228,26 +229,21 @@ fn put_unsound(site: &Site, recipe: &Recipe, is_14: bool, seen: &mut Seen) -> bo
 /// The state made unsound, or its record made none.
 fn spoilt(state: &State, chance: &mut Chance) -> Site {
     let mut record = reference::to_record(state);
-    match chance.below(6) {
-        0 => {
-            let held: Vec<usize> = (0..RECORD_BYTES).filter(|&place| record[place] == 1).collect();
-            let place = match chance.once_in(2) {
-                true => chance.pick(&held),
-                false => chance.below(RECORD_BYTES),
-            };
-            record[place] = 2 + chance.below(254) as u8;
-            Site::of_bytes(record)
-        }
-        1 => {
-            let length = chance.pick(&OTHER_LENGTHS[..8]);
-            Site::of_bytes(record.into_iter().cycle().take(length).collect())
-        }
-        _ => loop {
-            let other = turned(state, chance);
-            if !other.is_sound() {
-                return Site::of_state(other);
+    if chance.once_in(3) {
+        let length = chance.pick(&OTHER_LENGTHS[..9]);
+        return Site::of_bytes(record.into_iter().cycle().take(length).collect());
+    }
+    loop {
+        let site = match chance.once_in(4) {
+            true => {
+                turn(&mut record, chance.below(PLACES));
+                Site::of_bytes(record.clone())
             }
-        },
+            false => Site::of_state(&turned(state, chance)),
+        };
+        if site.state.as_ref().is_some_and(|state| !state.is_sound()) {
+            return site;
+        }
     }
 }
 
@@ -260,7 +256,7 @@ fn leaving(place: usize, chance: &mut Chance, seen: &mut Seen) {
     let Some(list) = course.refused(place, NOT_LISTED, chance) else {
         return;
     };
-    let site = Site::of_state(course.states[0].clone());
+    let site = Site::of_state(&course.states[0]);
     let recipe = Recipe::written(course.activator, &list, place, chance);
     let answered = put_recipe(&site, recipe, seen);
     if let (Some(answered), true) = (answered, list.len() > place + 1) {
@@ -280,5 +276,5 @@ fn outsider(chance: &mut Chance, seen: &mut Seen) {
         .map(|_| instruction_of_anyone(&state, chance))
         .collect();
     let recipe = Recipe::written(activator, &instructions, 0, chance);
-    put_recipe(&Site::of_state(state), recipe, seen);
+    put_recipe(&Site::of_state(&state), recipe, seen);
 }

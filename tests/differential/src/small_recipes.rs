@@ -60,7 +60,7 @@ const RECIPE: [u8; 5] = [7, 0, 0, 1, 1];
 const NO_RECIPE: [u8; 5] = [7, 0, 0, 2, 1];
 
 pub fn run(plan: &Plan) -> (String, Seen) {
-    let sites: Vec<Site> = reference::small_states().into_iter().map(Site::of_state).collect();
+    let sites: Vec<Site> = reference::small_states().iter().map(Site::of_state).collect();
     let own: Vec<Site> = sites.iter().filter_map(with_own_import).collect();
     let mut seen = plan.run("small recipes", |shard, chance, seen| {
         for site in sites.iter().skip(shard).step_by(plan.shards()) {
@@ -69,7 +69,7 @@ pub fn run(plan: &Plan) -> (String, Seen) {
         }
         let first = (shard * SKIPPED) as u32;
         let records = (first..1 << PLACES).step_by(plan.shards() * SKIPPED);
-        let any = records.map(|places| Site::of_state(state_of(places)));
+        let any = records.map(|places| Site::of_state(&state_of(places)));
         let own = own.iter().skip(shard).step_by(plan.shards()).cloned();
         any.chain(own).for_each(|site| both(&site, seen));
     });

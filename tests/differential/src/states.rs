@@ -1,7 +1,7 @@
 //! Random sound states of several shapes.
 
 use crate::chains::MOST_STEPS;
-use crate::numbers::{some_of, Pairs};
+use crate::numbers::{free, members, some_of, Pairs};
 use chance::Chance;
 use reference::State;
 use std::collections::VecDeque;
@@ -85,6 +85,23 @@ pub fn sound_state(shape: Shape, chance: &mut Chance) -> State {
             .extend(random_pairs(&[object], &with_access, size.spare, chance));
     }
     state
+}
+
+/// Lists every user, area and object that is not, each with one pair that it needs. A sound state stays sound.
+pub fn list_all(state: &mut State, chance: &mut Chance) {
+    let (users, areas) = (members(&state.users), members(&state.areas));
+    for area in free(&areas, AREAS) {
+        state.areas.insert(area);
+        state.owners.insert((chance.pick(&users), area));
+    }
+    for user in free(&users, 32) {
+        state.users.insert(user);
+        state.owners.insert((user, chance.below(AREAS) as u8));
+    }
+    for object in free(&members(&state.objects), 64) {
+        state.objects.insert(object);
+        state.definitions.insert((object, chance.below(AREAS) as u8));
+    }
 }
 
 /// The areas and their owners, and nothing else.

@@ -268,7 +268,7 @@ fn parse_site(words: &[&str]) -> Result<Site, String> {
     let part = |name: &str| parts.get(name).copied().ok_or(format!("{name} is missing"));
     let list = |name: &str| parse_list(part(name)?);
     let relation = |name: &str| parse_relation(part(name)?);
-    Ok(Site::of_state(State {
+    Ok(Site::of_state(&State {
         users: list("users")?,
         areas: list("areas")?,
         objects: list("objects")?,

@@ -1,41 +1,54 @@
--- `inspection::is_well_formed` meets its contract: the parts in the test's order, the first that fails decides.
+-- `inspection::is_well_formed` meets its contract.
 -- Assumes nothing.
-use mathlib.Core.Path.{_≡_, refl, sym, _∙_}
-use mathlib.Core.Bool.{true, false}
-use borrow.Author.Tests.{not-true, not-false}
-use Rattle.state.specs.Site.{Site}
-use Rattle.state.specs.Stands.{site}
-use Rattle.soundness.specs.Tests.{isConsistent, isAcceptable, someListed, isWellFormed}
+use native.Mathlib.Omega.{arith}
+use Rattle.state.specs.Stands.{Fits}
+use Rattle.state.proofs.Typed.{fits-by-type}
+use Rattle.inspection.proofs.Parts.{well-formed-by-rows}
 use Rattle.inspection.proofs.is_well_formed.Statement.{statement}
 use Rattle.inspection.proofs.is_well_formed.Tie as tie
 
-inconsistent : (s : Site) → isConsistent s ≡ false → false ≡ isWellFormed s
-inconsistent s a = rw a refl
+element-copy-out-users : tie.Need-element-copy-out-users
+element-copy-out-users c = omega arith
 
-unacceptable : (s : Site) → isConsistent s ≡ true → isAcceptable s ≡ false → false ≡ isWellFormed s
-unacceptable s a b = rw (a, b) refl
+element-copy-out-areas : tie.Need-element-copy-out-areas
+element-copy-out-areas c = omega arith
 
-by-areas : (s : Site) → isConsistent s ≡ true → isAcceptable s ≡ true → someListed (s .areas) ≡ isWellFormed s
-by-areas s a b = rw (a, b) refl
+element-copy-out-low : tie.Need-element-copy-out-low
+element-copy-out-low c = omega arith
 
--- what was passed
-consistent : (c : tie.Else1) → isConsistent (site (c .before .before .args .s)) ≡ true
-consistent c = sym (c .before .is-consistent .ensures) ∙ not-false _ (c .if1 .left)
+element-copy-out-high : tie.Need-element-copy-out-high
+element-copy-out-high c = omega arith
 
-acceptable : (c : tie.Else2) → isAcceptable (site (c .before .before .before .before .args .s)) ≡ true
-acceptable c = sym (c .before .is-acceptable .ensures) ∙ not-false _ (c .if2 .left)
+-- ---- the calls, from the last to the first
+abbrev high-at : tie.After-seconds → tie.After-objects-fit2
+high-at c = c .before .before .before .before
+
+abbrev low-at : tie.After-objects-fit2 → tie.After-objects-fit
+low-at c = c .before .before .before .before .before
+
+abbrev structure-at : tie.After-objects-fit → tie.After-areas-fit
+structure-at c = c .before .before .before .before .before
+
+abbrev users-at : tie.After-areas-fit → tie.After-users-fit
+users-at c = c .before .before .before
+
+abbrev start-of : tie.After-users-fit → tie.Start
+start-of c = c .before .before .before .before .before .before .before
 
 returns : tie.Need-returns
-returns c = inconsistent _ (sym (c .before .is-consistent .ensures) ∙ not-true _ (c .if1 .taken))
-
-returns-2 : tie.Need-returns-2
-returns-2 c = unacceptable _ (consistent (c .before .before)) (sym (c .before .is-acceptable .ensures) ∙ not-true _ (c .if2 .taken))
-
-returns-3 : tie.Need-returns-3
-returns-3 c =
-    let passed = c .before in
-    c .has-area .ensures ∙ by-areas _ (consistent (passed .before .before)) (acceptable passed)
+returns c =
+    let joined = c .before .before in
+    let high = high-at joined in
+    let low = low-at high in
+    let structures = structure-at low in
+    let users = users-at structures in
+    let start = start-of users in
+    let s = start .args .t1 in
+    let fits : Fits s = fits-by-type s _ (start .good .0 .1 .1) in
+    well-formed-by-rows s fits _ _ _ _ _ _ _ (users .users-fit .ensures) (structures .areas-fit .ensures) (low .objects-fit .ensures)
+    (high .objects-fit2 .ensures) (joined .seconds .ensures) (c .before .is-subset .ensures) (c .is-empty .ensures)
 
 pub is-well-formed-spec : {M : Type 1} → statement M
 is-well-formed-spec =
-    tie.close (tie.spec (λ c κs. tt) returns (λ c κs. tt) returns-2 (λ c κs. tt) returns-3)
+    tie.close
+    (tie.spec element-copy-out-users element-copy-out-areas element-copy-out-low element-copy-out-high (λ c κs. tt) (λ c κs. tt) (λ c κs. omega arith) (λ c κs. omega arith) (λ c κs. tt) (λ c κs. tt) (λ c κs. tt) returns)

@@ -5,6 +5,7 @@ use mathlib.Core.Path.{_≡_, sym, _∙_}
 use mathlib.Core.Bool.{true}
 use native.Mathlib.Omega.{arith}
 use borrow.Author.Tests.{not-true, not-false}
+use Rattle.bits.specs.Rows.{cellsOf}
 use Rattle.state.specs.Below.{eachBelow}
 use Rattle.state.proofs.Below.{each-none, each-goes, each-stop, each-done}
 use Rattle.label_tables.specs.Labels.{labelListed, labelsListed}
@@ -12,7 +13,7 @@ use Rattle.label_tables.proofs.all_listed.Statement.{statement}
 use Rattle.label_tables.proofs.all_listed.Tie as tie
 
 abbrev Inv-loop : tie.InvT-loop
-Inv-loop areas table count k₀ k = (k ≤ count) × (eachBelow k (labelListed areas table) ≡ true)
+Inv-loop areas table count k₀ k = (k ≤ count) × (eachBelow k (labelListed (cellsOf areas) table) ≡ true)
 
 abbrev μ-loop : tie.MeasureT-loop
 μ-loop areas table count k₀ k = count - k

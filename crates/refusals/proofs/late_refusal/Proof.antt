@@ -54,7 +54,7 @@ returns-5 c =
 returns-6 : tie.Need-returns-6
 returns-6 c =
     let x = c .before .before .before .before .args in
-    in-arm (site (x .t)) Definition false (x .a) (x .b) (c .cut-refusal .ensures) (c .before .before .enum-told3 .given .1)
+    in-arm (site (x .t)) Definition false (x .a) (x .b) (c .object-refusal .ensures) (c .before .before .enum-told3 .given .1)
     (c .before .if3 .left)
 
 returns-7 : tie.Need-returns-7
@@ -65,7 +65,7 @@ returns-7 c =
 returns-8 : tie.Need-returns-8
 returns-8 c =
     let x = c .before .before .before .before .args in
-    in-arm (site (x .t)) Structure false (x .a) (x .b) (c .cut-refusal2 .ensures) (c .before .before .enum-told4 .given .1)
+    in-arm (site (x .t)) Structure false (x .a) (x .b) (c .cut-refusal .ensures) (c .before .before .enum-told4 .given .1)
     (c .before .if4 .left)
 
 returns-9 : tie.Need-returns-9
@@ -77,7 +77,7 @@ returns-9 c =
 returns-10 : tie.Need-returns-10
 returns-10 c =
     let x = c .before .before .before .before .args in
-    in-arm (site (x .t)) Import false (x .a) (x .b) (c .cut-refusal3 .ensures) (c .before .before .enum-told5 .given .1)
+    in-arm (site (x .t)) Import false (x .a) (x .b) (c .object-refusal2 .ensures) (c .before .before .enum-told5 .given .1)
     (c .before .if5 .left)
 
 returns-11 : tie.Need-returns-11
@@ -89,7 +89,7 @@ returns-11 c =
 returns-12 : tie.Need-returns-12
 returns-12 c =
     let x = c .before .before .before .before .args in
-    in-arm (site (x .t)) Export false (x .a) (x .b) (c .cut-refusal4 .ensures) (c .before .before .enum-told6 .given .1)
+    in-arm (site (x .t)) Export false (x .a) (x .b) (c .object-refusal3 .ensures) (c .before .before .enum-told6 .given .1)
     (c .before .if6 .left)
 
 pub late-refusal-spec : {M : Type 1} → statement M

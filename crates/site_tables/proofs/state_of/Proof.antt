@@ -7,7 +7,7 @@ use mathlib.Core.List.{List}
 use Rattle.state.specs.Cells.{Members, Pairs}
 use Rattle.state.specs.Site.{Site, Relation, owner, definition, structure, import, export, cells, siteOf, empty}
 use Rattle.state.specs.Stands.{site}
-use Rattle.rows.specs.Rows.{firsts, seconds}
+use Rattle.relations.specs.Relations.{firsts, seconds}
 use Rattle.pair_tables.specs.Pairs.{withPairs}
 use Rattle.site_tables.specs.Tables.{relationOf, stateBy, relationsOf}
 use Rattle.site_tables.proofs.state_of.Statement.{statement}

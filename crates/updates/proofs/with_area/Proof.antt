@@ -1,5 +1,6 @@
 -- `updates::with_area` meets its contract.
 -- Assumes nothing.
+use Rattle.bits.specs.Rows.{cellsOf}
 use Rattle.state.specs.Site.{siteOf}
 use Rattle.state.specs.Stands.{site}
 use Rattle.updates.proofs.with_area.Statement.{statement}
@@ -10,8 +11,8 @@ unfolding site
 returns c =
     let s = c .before .before .args .t1 in λ i.
     siteOf
-    (s .users) (c .mark-32 .ensures i) (s .objects) (s .owners) (s .definitions) (s .structure) (s .imports)
-    (s .exports)
+    (cellsOf (s .users)) (c .mark-32 .ensures i) (cellsOf (s .objects)) (cellsOf (s .owners)) (cellsOf (s .definitions)) (cellsOf (s .structure)) (cellsOf (s .imports))
+    (cellsOf (s .exports))
 
 pub with-area-spec : {M : Type 1} → statement M
 with-area-spec = tie.close (tie.spec (λ c κs. tt) returns)

@@ -1,5 +1,6 @@
 -- `updates::with_export` meets its contract.
 -- Assumes nothing.
+use Rattle.bits.specs.Rows.{cellsOf}
 use Rattle.state.specs.Site.{siteOf}
 use Rattle.state.specs.Stands.{site}
 use Rattle.updates.proofs.with_export.Statement.{statement}
@@ -10,7 +11,7 @@ unfolding site
 returns c =
     let s = c .before .before .args .t1 in λ i.
     siteOf
-    (s .users) (s .areas) (s .objects) (s .owners) (s .definitions) (s .structure) (s .imports) (c .put-64
+    (cellsOf (s .users)) (cellsOf (s .areas)) (cellsOf (s .objects)) (cellsOf (s .owners)) (cellsOf (s .definitions)) (cellsOf (s .structure)) (cellsOf (s .imports)) (c .put-64
     .ensures i)
 
 pub with-export-spec : {M : Type 1} → statement M

@@ -4,7 +4,6 @@ use mathlib.Core.Path.{sym, subst, _∙_}
 use mathlib.Core.Logic.{_↔_}
 use mathlib.Core.Bool.{Bool}
 use lib.Dec.{T}
-use Rattle.state.specs.Site.{import, export}
 use Rattle.state.specs.Stands.{site}
 use Rattle.state.proofs.Typed.{shaped-by-type}
 use Rattle.soundness.specs.Sound.{Valid}
@@ -14,14 +13,13 @@ use Rattle.validity.proofs.is_valid.Statement.{statement}
 use Rattle.validity.proofs.is_valid.Tie as tie
 
 returns : tie.Need-returns
-unfolding site
 returns c =
-    let lent = c .before .before .before .before .before in
-    let start = lent .before .before .before .before in
-    let s = site (start .args .t1) in
-    let shaped = shaped-by-type (start .args .t1) _ (start .good .0 .1 .1) in
-    let e = c .objects-reached .ensures ∙ sym (valid-by-objects s (shaped .relations import) (shaped .relations export)) in
-    (e, subst (λ (b : Bool). T b ↔ Valid s) (sym e) (valid-decided s))
+    let turned = c .before .before .before .before .before .before .before in
+    let start = turned .before .before .before in
+    let s = start .args .t1 in
+    let shaped = shaped-by-type s _ (start .good .0 .1 .1) in
+    let e = c .are-valid .ensures ∙ sym (valid-by-objects s _ (turned .transposed .ensures) shaped) in
+    (e, subst (λ (b : Bool). T b ↔ Valid (site s)) (sym e) (valid-decided (site s)))
 
 pub is-valid-spec : {M : Type 1} → statement M
-is-valid-spec = tie.close (tie.spec (λ c κs. tt) returns)
+is-valid-spec = tie.close (tie.spec (λ c κs. tt) (λ c κs. tt) returns)

@@ -1,26 +1,21 @@
--- `state::State::founding` meets its contract, since `State::empty` gives the empty record.
+-- `state::State::founding` meets its contract, by computing both sides.
 -- Assumes nothing.
-use mathlib.Core.Path.{ap}
-use mathlib.Core.Bool.{true}
+use mathlib.Core.Path.{refl}
 use native.Mathlib.Omega.{arith}
+use Rattle.bits.specs.Bits.{bit}
+use Rattle.bits.specs.Rows.{bitsOf, cellsOf}
 use Rattle.state.specs.Cells.{mark, put}
-use Rattle.state.specs.Site.{Site, user, area, owner, withListed, withPair, founding}
+use Rattle.state.specs.Site.{empty, founding}
 use Rattle.state.specs.Stands.{site}
 use Rattle.state.proofs.State.founding.Statement.{statement}
 use Rattle.state.proofs.State.founding.Tie as tie
 
-element-write-s : tie.Need-element-write-s
-element-write-s c = omega arith
-
-element-write-s-2 : tie.Need-element-write-s-2
-element-write-s-2 c = omega arith
-
-element-write-s-3 : tie.Need-element-write-s-3
-element-write-s-3 c = omega arith
+array-write-owners : tie.Need-array-write-owners
+array-write-owners c = omega arith
 
 returns : tie.Need-returns
-unfolding founding mark put site
-returns c = ap (λ (e : Site). withPair (withListed (withListed e user 0 true) area 0 true) owner 0 0 true) (c .empty .ensures)
+unfolding founding empty mark put site cellsOf bitsOf bit
+returns c = refl
 
 pub founding-spec : {M : Type 1} → statement M
-founding-spec = tie.close (tie.spec (λ c κs. tt) element-write-s element-write-s-2 element-write-s-3 returns)
+founding-spec = tie.close (tie.spec array-write-owners returns)
