@@ -4,7 +4,7 @@ ghost use mathlib.Core.Path.{_≡_};
 ghost use Prim.Native.Nat.{_<_};
 ghost use lib.Dec.{T};
 ghost use lib.ListN.{length, getD, set};
-ghost use Rattle.bits.specs.Bits.{word, withBit};
+ghost use Rattle.bits.specs.Bits.{word, withBit, intersection};
 ghost use Rattle.bits.specs.Rows.{cellsOf};
 ghost use Rattle.state.specs.Cells.{member, mark, pair, put};
 ghost use Rattle.state.specs.Walk.{hasFirst, hasSecond};
@@ -98,6 +98,23 @@ pub fn image(rows: &[u32; 32], set: u32) -> u32
     while rest != 0 {
         let area = bits::lowest(rest);
         let more = bits::union(out, rows[area as usize]);
+        out = more;
+        let others = bits::without_lowest(rest);
+        rest = others;
+    }
+    out
+}
+
+// The areas of `within` from which a relation between areas leads into the set: those whose row meets it.
+pub fn preimage(rows: &[u32; 32], set: u32, within: u32) -> u32
+    ensures { λ r. ⌜ r ≡ intersection (image (transpose (cellsOf (now (rows .entry)))) set) within ⌝ }
+{
+    let mut rest = within;
+    let mut out: u32 = 0;
+    while rest != 0 {
+        let area = bits::lowest(rest);
+        let common = bits::intersection(rows[area as usize], set);
+        let more = bits::with_bit(out, area, !bits::is_empty(common));
         out = more;
         let others = bits::without_lowest(rest);
         rest = others;

@@ -17,7 +17,7 @@ use Rattle.search.specs.Rounds.{moveBy, reachable}
 use Rattle.search.specs.Laws
 use Rattle.search.proofs.Layers.{reached-bit}
 
-module _ (ds st tr im ex : Rows) (o : ℕ) (turned : cellsOf tr ≡ transpose (cellsOf st)) where
+module _ (ds st : Rows) (tr : Pairs) (im ex : Rows) (o : ℕ) (turned : tr ≡ transpose (cellsOf st)) where
   -- what the relations say of the object
   abbrev pub object : Lending
   object = lendingOf (cellsOf ds) (cellsOf st) (cellsOf im) (cellsOf ex) o
@@ -26,7 +26,7 @@ module _ (ds st tr im ex : Rows) (o : ℕ) (turned : cellsOf tr ≡ transpose (c
   start = bit (getD ds o 0)
 
   abbrev move : ℕ → ℕ → Bool
-  move = moveBy (cellsOf st) (cellsOf tr) (bit (getD im o 0)) (bit (getD ex o 0))
+  move = moveBy (cellsOf st) tr (bit (getD im o 0)) (bit (getD ex o 0))
 
   same-step : (s r : ℕ) → s < width → r < width → move s r ≡ step object s r
   unfolding moveBy step

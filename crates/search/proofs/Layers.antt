@@ -9,9 +9,10 @@ use native.Mathlib.Omega.{arith}
 use native.Mathlib.Nat.{add-zero, add-suc}
 use native.Mathlib.Numerals.{add-one}
 use native.Mathlib.Decide.{decLt}
+use borrow.Author.Tests.{eqb-true}
 use lib.Dec.{T, T-not, not-T}
 use lib.Seq.{ext-getD}
-use Rattle.bits.specs.Bits.{bit, places, word, union, difference, isSubset}
+use Rattle.bits.specs.Bits.{bit, places, word, union, difference, isEmpty, isSubset}
 use Rattle.bits.proofs.Laws.{bit-zero, bit-past, word-bit, word-fits, word-is, same-word, union-bit, difference-bit, difference-fits, subset-decided}
 use Rattle.state.specs.Below.{someBelow}
 use Rattle.state.proofs.Below.{some-by, some-at}
@@ -156,6 +157,18 @@ module _ (start : ℕ → Bool) (move : ℕ → ℕ → Bool) where
       go : (x : Answer) → isSteps x ≡ false → x ≡ NoAccess
       go (Steps k) q = absurd (fails q tt)
       go NoAccess q = refl
+
+  -- whether each wanted area is reached, found in three places of a search: all are by now, no area is new, the last round is over
+  pub within-found : (n wanted all : ℕ) (r : Bool) → n ≤ longest → all ≡ reachedRow n → r ≡ isSubset wanted all → r ≡ true → true ≡ isSubset wanted (reachable start move)
+  within-found n wanted all r h e p t = sym (early n wanted h (sym (p ∙ ap (isSubset wanted) e) ∙ t))
+
+  pub within-ended : (n wanted all new : ℕ) (r : Bool) → n ≤ longest → all ≡ reachedRow n → new ≡ layerRow (suc n) → isEmpty new ≡ true
+      → r ≡ isSubset wanted all → r ≡ isSubset wanted (reachable start move)
+  within-ended n wanted all new r h e la none p =
+      p ∙ ap (isSubset wanted) (e ∙ all-reached n h (sym la ∙ eqb-true new 0 none))
+
+  pub within-last : (n wanted all : ℕ) (r : Bool) → n ≡ longest → all ≡ reachedRow n → r ≡ isSubset wanted all → r ≡ isSubset wanted (reachable start move)
+  within-last n wanted all r h e p = p ∙ ap (isSubset wanted) (e ∙ last-reached n h)
 
   pub found-first : (a : ℕ) → bit (reachedRow 0) a ≡ true → Steps 0 ≡ answerWithin start move longest a
   unfolding longest answerWithin

@@ -3,6 +3,7 @@ ghost use mathlib.Core.Path.{_≡_};
 ghost use Rattle.bits.specs.Bits.{bit, isSubset};
 ghost use Rattle.bits.specs.Rows.{cellsOf};
 ghost use Rattle.state.specs.Stands.{site};
+ghost use Rattle.relations.specs.Relations.{transpose};
 ghost use Rattle.access.specs.Lending.{lending};
 ghost use Rattle.access.specs.Answer.{longest, answerWithin, answer, answerNumber, leastCount};
 ghost use Rattle.access.specs.Claims.{Right};
@@ -28,6 +29,16 @@ fn next<'a>(
     let outward = relations::image(structure, bits::intersection(layer, exported));
     let inward = relations::image(transposed, layer);
     bits::union(outward, bits::intersection(inward, imported))
+}
+
+// The same for an object by itself, for which no transpose is made: the rows of those that import it are looked at.
+fn next_alone(layer: u32, structure: &[u32; 32], imported: u32, exported: u32) -> u32
+    ensures { λ r. ⌜ r ≡ nextTo (moveBy (cellsOf (now (structure .entry))) (transpose (cellsOf (now (structure .entry))))
+        (bit imported) (bit exported)) layer ⌝ }
+{
+    let outward = relations::image(structure, bits::intersection(layer, exported));
+    let inward = relations::preimage(structure, layer, imported);
+    bits::union(outward, inward)
 }
 
 // Does the object reach each area that is wanted? It is given by its rows: the areas that define, import and export it;
@@ -61,17 +72,46 @@ pub fn reaches<'a>(
     bits::is_subset(wanted, reached)
 }
 
-// The number of steps in a shortest chain of the object to the area, or no access. The object is given as above.
-fn least_steps<'a>(
+// The same, for an object by itself.
+pub fn reaches_alone(
     defined: u32,
-    structure: &'a [u32; 32],
-    transposed: &'a [u32; 32],
+    structure: &[u32; 32],
+    imported: u32,
+    exported: u32,
+    wanted: u32,
+) -> bool
+    ensures { λ r. ⌜ r ≡ isSubset wanted (reachable (bit defined) (moveBy (cellsOf (now (structure .entry))) (transpose
+        (cellsOf (now (structure .entry)))) (bit imported) (bit exported))) ⌝ }
+{
+    let mut layer = defined;
+    let mut reached = defined;
+    for n in 0..LONGEST {
+        if bits::is_subset(wanted, reached) {
+            return true;
+        }
+        let near = next_alone(layer, structure, imported, exported);
+        let new = bits::difference(near, reached);
+        if bits::is_empty(new) {
+            return false;
+        }
+        let all = bits::union(reached, new);
+        reached = all;
+        layer = new;
+    }
+    bits::is_subset(wanted, reached)
+}
+
+// The number of steps in a shortest chain of the object to the area, or no access. The object is given by its rows,
+// as above.
+fn least_steps(
+    defined: u32,
+    structure: &[u32; 32],
     imported: u32,
     exported: u32,
     area: u8,
 ) -> Answer
-    ensures { λ r. ⌜ r ≡ answerWithin (bit defined) (moveBy (cellsOf (now (structure .entry))) (cellsOf (now
-        (transposed .entry))) (bit imported) (bit exported)) longest area ⌝ }
+    ensures { λ r. ⌜ r ≡ answerWithin (bit defined) (moveBy (cellsOf (now (structure .entry))) (transpose (cellsOf (now
+        (structure .entry)))) (bit imported) (bit exported)) longest area ⌝ }
 {
     if bits::is_set(defined, area) {
         return Answer::Steps(0);
@@ -79,7 +119,7 @@ fn least_steps<'a>(
     let mut layer = defined;
     let mut reached = defined;
     for n in 0..LONGEST {
-        let near = next(layer, structure, transposed, imported, exported);
+        let near = next_alone(layer, structure, imported, exported);
         let new = bits::difference(near, reached);
         if bits::is_set(new, area) {
             return Answer::Steps(n + 1);
@@ -100,9 +140,8 @@ pub fn steps(s: State, area: u8, object: u8) -> Answer
     ensures meaning { λ r. ⌜ Right (lending (site s) object) area r ⌝ }
     ensures number { λ r. ⌜ answerNumber r ≡ leastCount (lending (site s) object) area ⌝ }
 {
-    let transposed = relations::transposed(&s.structure);
     let defined = relations::row_of(&s.definitions, object);
     let imported = relations::row_of(&s.imports, object);
     let exported = relations::row_of(&s.exports, object);
-    least_steps(defined, &s.structure, &transposed, imported, exported, area)
+    least_steps(defined, &s.structure, imported, exported, area)
 }

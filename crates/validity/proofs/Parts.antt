@@ -11,7 +11,7 @@ use Rattle.bits.specs.Bits.{bit, places, union}
 use Rattle.bits.specs.Rows.{Rows, cellsOf}
 use Rattle.bits.proofs.Laws.{union-bit, subset-decided}
 use Rattle.state.specs.Below.{eachBelow}
-use Rattle.state.specs.Cells.{pair}
+use Rattle.state.specs.Cells.{Pairs, pair}
 use Rattle.state.specs.Site.{Site, siteOf, import, export, Shaped}
 use Rattle.state.specs.Stands.{site}
 use Rattle.state.specs.declared.State.{State}
@@ -32,7 +32,7 @@ use Rattle.validity.specs.Parts.{validFor, reachesEach, objectValid}
 abbrev pub siteFor : (ds st im ex : Rows) → Site
 siteFor ds st im ex = siteOf [] [] [] [] (cellsOf ds) (cellsOf st) (cellsOf im) (cellsOf ex)
 
-module _ (ds st tr im ex : Rows) (turned : cellsOf tr ≡ transpose (cellsOf st)) where
+module _ (ds st : Rows) (tr : Pairs) (im ex : Rows) (turned : tr ≡ transpose (cellsOf st)) where
   -- what the relations say of an object
   abbrev object : ℕ → Lending
   object o = lendingOf (cellsOf ds) (cellsOf st) (cellsOf im) (cellsOf ex) o
@@ -42,7 +42,7 @@ module _ (ds st tr im ex : Rows) (turned : cellsOf tr ≡ transpose (cellsOf st)
   wanted o = union (getD im o 0) (getD ex o 0)
 
   abbrev here : ℕ → ℕ
-  here o = reachable (bit (getD ds o 0)) (moveBy (cellsOf st) (cellsOf tr) (bit (getD im o 0)) (bit (getD ex o 0)))
+  here o = reachable (bit (getD ds o 0)) (moveBy (cellsOf st) tr (bit (getD im o 0)) (bit (getD ex o 0)))
 
   -- the object's import and export pairs have access
   record ObjectValid (o : ℕ) : Type 0 where
@@ -97,7 +97,7 @@ module _ (ds st tr im ex : Rows) (turned : cellsOf tr ≡ transpose (cellsOf st)
   object-by-rows o = same-test _ _ (λ t. for-back o (valid-there o t)) (λ t. valid-back o (for-there o t))
 
 -- the test of all objects
-module _ (s : State) (tr : Rows) (turned : cellsOf tr ≡ transpose (cellsOf (s .structure))) where
+module _ (s : State) (tr : Pairs) (turned : tr ≡ transpose (cellsOf (s .structure))) where
   abbrev each : ℕ → Bool
   each = objectValid (s .definitions) (s .structure) tr (s .imports) (s .exports)
 

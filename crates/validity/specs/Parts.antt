@@ -6,6 +6,7 @@ use lib.ListN.{getD}
 use Rattle.bits.specs.Bits.{bit, union, isSubset}
 use Rattle.bits.specs.Rows.{Rows, cellsOf}
 use Rattle.state.specs.Below.{eachBelow}
+use Rattle.state.specs.Cells.{Pairs}
 use Rattle.state.specs.Site.{Site, area, limit, imports, exports}
 use Rattle.access.specs.Lending.{lending}
 use Rattle.access.specs.Answer.{access}
@@ -16,12 +17,12 @@ unfoldable pub validFor : Site → ℕ → Bool
 validFor s o = eachBelow (limit area) (λ a. not (imports s o a || exports s o a) || access (lending s o) a)
 
 -- the areas that import or export an object are among those that it reaches
-unfoldable pub reachesEach : (defined : ℕ) (structure transposed : Rows) (imported exported : ℕ) → Bool
+unfoldable pub reachesEach : (defined : ℕ) (structure : Rows) (transposed : Pairs) (imported exported : ℕ) → Bool
 reachesEach defined structure transposed imported exported =
     isSubset (union imported exported)
-    (reachable (bit defined) (moveBy (cellsOf structure) (cellsOf transposed) (bit imported) (bit exported)))
+    (reachable (bit defined) (moveBy (cellsOf structure) transposed (bit imported) (bit exported)))
 
 -- so it is for object o
-abbrev pub objectValid : (definitions structure transposed imports exports : Rows) → ℕ → Bool
+abbrev pub objectValid : (definitions structure : Rows) (transposed : Pairs) (imports exports : Rows) → ℕ → Bool
 objectValid definitions structure transposed imports exports o =
     reachesEach (getD definitions o 0) structure transposed (getD imports o 0) (getD exports o 0)

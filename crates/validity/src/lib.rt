@@ -2,6 +2,7 @@
 ghost use mathlib.Core.Path.{_≡_};
 ghost use mathlib.Core.Logic.{_↔_};
 ghost use lib.Dec.{T};
+ghost use Rattle.bits.specs.Rows.{cellsOf};
 ghost use Rattle.state.specs.Below.{eachBelow};
 ghost use Rattle.state.specs.Stands.{site};
 ghost use Rattle.soundness.specs.Sound.{Valid};
@@ -17,7 +18,8 @@ fn reaches_each<'a>(
     imported: u32,
     exported: u32,
 ) -> bool
-    ensures { λ r. ⌜ r ≡ reachesEach defined (now (structure .entry)) (now (transposed .entry)) imported exported ⌝ }
+    ensures { λ r. ⌜ r ≡ reachesEach defined (now (structure .entry)) (cellsOf (now (transposed .entry))) imported
+        exported ⌝ }
 {
     let wanted = bits::union(imported, exported);
     search::reaches(defined, structure, transposed, imported, exported, wanted)
@@ -32,8 +34,8 @@ fn are_valid<'a>(
     imports: &'a [u32; 64],
     exports: &'a [u32; 64],
 ) -> bool
-    ensures { λ r. ⌜ r ≡ eachBelow 64 (objectValid (now (definitions .entry)) (now (structure .entry)) (now
-        (transposed .entry)) (now (imports .entry)) (now (exports .entry))) ⌝ }
+    ensures { λ r. ⌜ r ≡ eachBelow 64 (objectValid (now (definitions .entry)) (now (structure .entry)) (cellsOf (now
+        (transposed .entry))) (now (imports .entry)) (now (exports .entry))) ⌝ }
 {
     for o in 0..64usize {
         if !reaches_each(
@@ -68,9 +70,9 @@ pub fn is_valid(s: State) -> bool
 pub fn is_valid_for(s: State, object: u8) -> bool
     ensures { λ r. ⌜ r ≡ validFor (site s) object ⌝ }
 {
-    let transposed = relations::transposed(&s.structure);
     let defined = relations::row_of(&s.definitions, object);
     let imported = relations::row_of(&s.imports, object);
     let exported = relations::row_of(&s.exports, object);
-    reaches_each(defined, &s.structure, &transposed, imported, exported)
+    let wanted = bits::union(imported, exported);
+    search::reaches_alone(defined, &s.structure, imported, exported, wanted)
 }

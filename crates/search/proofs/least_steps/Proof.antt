@@ -9,6 +9,7 @@ use native.Mathlib.Numerals.{add-one}
 use borrow.Author.Tests.{eqb-true}
 use Rattle.bits.specs.Bits.{bit, isEmpty}
 use Rattle.bits.specs.Rows.{cellsOf}
+use Rattle.relations.specs.Relations.{transpose}
 use Rattle.access.specs.Answer.{longest, answerWithin}
 use Rattle.access.specs.declared.Answer.the-variants.{NoAccess}
 use Rattle.search.specs.Rounds.{moveBy}
@@ -17,13 +18,13 @@ use Rattle.search.proofs.least_steps.Statement.{statement}
 use Rattle.search.proofs.least_steps.Tie as tie
 
 abbrev Inv-loop : tie.InvT-loop
-Inv-loop defined structure transposed imported exported area layer₀ reached₀ n₀ layer reached n =
-    let move = moveBy (cellsOf structure) (cellsOf transposed) (bit imported) (bit exported) in
+Inv-loop defined structure imported exported area layer₀ reached₀ n₀ layer reached n =
+    let move = moveBy (cellsOf structure) (transpose (cellsOf structure)) (bit imported) (bit exported) in
     (n ≤ longest) × (layer ≡ layerRow (bit defined) move n) × (reached ≡ reachedRow (bit defined) move n)
     × (bit (reachedRow (bit defined) move n) area ≡ false)
 
 abbrev μ-loop : tie.MeasureT-loop
-μ-loop defined structure transposed imported exported area layer₀ reached₀ n₀ layer reached n = longest - n
+μ-loop defined structure imported exported area layer₀ reached₀ n₀ layer reached n = longest - n
 
 -- the area is one that defines the object, or not, by what the call promises
 first-bit : (defined a : ℕ) (move : ℕ → ℕ → Bool) (r v : Bool) → defined ≡ reachedRow (bit defined) move 0 → r ≡ bit defined a → r ≡ v
@@ -58,14 +59,14 @@ loop-holds c =
 new-layer : (c : tie.After-difference Inv-loop μ-loop)
     → let top = c .before .before .before in
     let a = top .before .before .before .args in
-    c .difference .result ≡ layerRow (bit (a .defined)) (moveBy (cellsOf (a .structure .now)) (cellsOf (a .transposed .now)) (bit (a .imported)) (bit (a .exported))) (suc (top .loop .n))
+    c .difference .result ≡ layerRow (bit (a .defined)) (moveBy (cellsOf (a .structure .now)) (transpose (cellsOf (a .structure .now))) (bit (a .imported)) (bit (a .exported))) (suc (top .loop .n))
 new-layer c =
     let inv = c .before .before .before .loop .inv in
-    round _ _ _ _ _ _ _ (inv .1) (inv .2) (c .before .next .ensures) (c .difference .ensures)
+    round _ _ _ _ _ _ _ (inv .1) (inv .2) (c .before .next-alone .ensures) (c .difference .ensures)
 
-add-t16 : tie.Need-add-t16 Inv-loop μ-loop
+add-t15 : tie.Need-add-t15 Inv-loop μ-loop
 unfolding longest
-add-t16 c = omega arith
+add-t15 c = omega arith
 
 returns-2 : tie.Need-returns-2 Inv-loop μ-loop
 unfolding longest
@@ -109,5 +110,5 @@ returns-4 c =
 pub least-steps-spec : {M : Type 1} → statement M
 least-steps-spec =
     tie.close
-    (tie.spec Inv-loop μ-loop (λ c κs. tt) returns loop-holds (λ c κs. tt) (λ c κs. tt) (λ c κs. tt) add-t16 returns-2 (λ c κs. tt) returns-3
+    (tie.spec Inv-loop μ-loop (λ c κs. tt) returns loop-holds (λ c κs. tt) (λ c κs. tt) (λ c κs. tt) add-t15 returns-2 (λ c κs. tt) returns-3
     (λ c κs. tt) add-n loop-less loop-again returns-4)

@@ -10,7 +10,7 @@ use Rattle.bits.specs.Bits.{bit, isEmpty, isSubset}
 use Rattle.bits.specs.Rows.{cellsOf}
 use Rattle.access.specs.Answer.{longest}
 use Rattle.search.specs.Rounds.{moveBy, reachable}
-use Rattle.search.proofs.Layers.{reachedRow, layerRow, first-row, round, reach, all-reached, last-reached, early}
+use Rattle.search.proofs.Layers.{reachedRow, layerRow, first-row, round, reach, within-found, within-ended, within-last}
 use Rattle.search.proofs.reaches.Statement.{statement}
 use Rattle.search.proofs.reaches.Tie as tie
 
@@ -22,19 +22,6 @@ Inv-loop defined structure transposed imported exported wanted layer₀ reached�
 abbrev μ-loop : tie.MeasureT-loop
 μ-loop defined structure transposed imported exported wanted layer₀ reached₀ n₀ layer reached n = longest - n
 
-module _ (start : ℕ → Bool) (move : ℕ → ℕ → Bool) where
-  -- the answers of the three returns, by what the calls promise
-  found : (n wanted all : ℕ) (r : Bool) → n ≤ longest → all ≡ reachedRow start move n → r ≡ isSubset wanted all → r ≡ true → true ≡ isSubset wanted (reachable start move)
-  found n wanted all r h e p t = sym (early start move n wanted h (sym (p ∙ ap (isSubset wanted) e) ∙ t))
-
-  ended : (n wanted all new : ℕ) (r : Bool) → n ≤ longest → all ≡ reachedRow start move n → new ≡ layerRow start move (suc n) → isEmpty new ≡ true
-      → r ≡ isSubset wanted all → r ≡ isSubset wanted (reachable start move)
-  ended n wanted all new r h e la none p =
-      p ∙ ap (isSubset wanted) (e ∙ all-reached start move n h (sym la ∙ eqb-true new 0 none))
-
-  last : (n wanted all : ℕ) (r : Bool) → n ≡ longest → all ≡ reachedRow start move n → r ≡ isSubset wanted all → r ≡ isSubset wanted (reachable start move)
-  last n wanted all r h e p = p ∙ ap (isSubset wanted) (e ∙ last-reached start move n h)
-
 loop-holds : tie.Need-loop-holds Inv-loop μ-loop
 unfolding layerRow
 loop-holds c =
@@ -44,7 +31,7 @@ loop-holds c =
 returns : tie.Need-returns Inv-loop μ-loop
 returns c =
     let inv = c .before .before .before .loop .inv in
-    found _ _ _ _ _ _ (inv .0) (inv .2) (c .before .is-subset .ensures) (c .if1 .taken)
+    within-found _ _ _ _ _ _ (inv .0) (inv .2) (c .before .is-subset .ensures) (c .if1 .taken)
 
 -- after `difference` the new areas are the next layer
 new-layer : (c : tie.After-difference Inv-loop μ-loop)
@@ -61,7 +48,7 @@ returns-2 c =
     let asked = new .before .before in
     let inv = asked .before .before .before .loop .inv in
     sym (asked .if1 .left)
-    ∙ ended _ _ _ _ _ _ _ (inv .0) (inv .2) (new-layer new) (sym (c .before .is-empty .ensures) ∙ c .if2 .taken) (asked .before .is-subset .ensures)
+    ∙ within-ended _ _ _ _ _ _ _ (inv .0) (inv .2) (new-layer new) (sym (c .before .is-empty .ensures) ∙ c .if2 .taken) (asked .before .is-subset .ensures)
 
 add-n : tie.Need-add-n Inv-loop μ-loop
 unfolding longest
@@ -82,7 +69,7 @@ returns-3 : tie.Need-returns-3 Inv-loop μ-loop
 unfolding longest
 returns-3 c =
     let inv = c .before .before .loop .inv in
-    last _ _ _ _ _ _ (omega arith) (inv .2) (c .is-subset2 .ensures)
+    within-last _ _ _ _ _ _ (omega arith) (inv .2) (c .is-subset2 .ensures)
 
 pub reaches-spec : {M : Type 1} → statement M
 reaches-spec =

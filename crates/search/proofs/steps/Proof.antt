@@ -1,7 +1,7 @@
 -- `search::steps` meets its contract: the answer that is found on the object's rows is that of its relations.
 -- Assumes nothing.
 use Prim.Native.Nat.{ℕ}
-use mathlib.Core.Path.{_≡_, sym, ap, subst, _∙_}
+use mathlib.Core.Path.{_≡_, refl, sym, ap, subst, _∙_}
 use lib.ListN.{getD}
 use Rattle.bits.specs.Bits.{bit}
 use Rattle.bits.specs.Rows.{Rows, cellsOf}
@@ -22,22 +22,21 @@ promised : (l : Lending) (a : ℕ) (x : Answer) → x ≡ answer l a → (x ≡ 
 promised l a x e = (e, (subst (Right l a) (sym e) (answer-is-right l a), ap answerNumber e ∙ number-is-count l a))
 
 -- the answer, by what the calls promise
-answered : (ds st tr im ex : Rows) (o a defined imported exported : ℕ) (x : Answer)
-    → cellsOf tr ≡ transpose (cellsOf st) → defined ≡ getD ds o 0 → imported ≡ getD im o 0 → exported ≡ getD ex o 0
-    → x ≡ answerWithin (bit defined) (moveBy (cellsOf st) (cellsOf tr) (bit imported) (bit exported)) longest a
+answered : (ds st im ex : Rows) (o a defined imported exported : ℕ) (x : Answer)
+    → defined ≡ getD ds o 0 → imported ≡ getD im o 0 → exported ≡ getD ex o 0
+    → x ≡ answerWithin (bit defined) (moveBy (cellsOf st) (transpose (cellsOf st)) (bit imported) (bit exported)) longest a
     → x ≡ answer (lendingOf (cellsOf ds) (cellsOf st) (cellsOf im) (cellsOf ex) o) a
-answered ds st tr im ex o a defined imported exported x turned d m e p = p ∙ rw (d, m, e) (same-answer ds st tr im ex o turned a)
+answered ds st im ex o a defined imported exported x d m e p = p ∙ rw (d, m, e) (same-answer ds st (transpose (cellsOf st)) im ex o refl a)
 
 returns : tie.Need-returns
 unfolding site
 returns c =
-    let exported = c .before .before .before .before in
+    let exported = c .before .before .before in
     let imported = exported .before .before .before .before in
     let defined = imported .before .before .before .before in
-    let turned = defined .before .before .before .before in
     promised _ _ _
-    (answered _ _ _ _ _ _ _ _ _ _ _ (turned .transposed .ensures) (defined .row-of .ensures) (imported .row-of2 .ensures) (exported .row-of3 .ensures)
+    (answered _ _ _ _ _ _ _ _ _ _ (defined .row-of .ensures) (imported .row-of2 .ensures) (exported .row-of3 .ensures)
     (c .least-steps .ensures))
 
 pub steps-spec : {M : Type 1} → statement M
-steps-spec = tie.close (tie.spec (λ c κs. tt) (λ c κs. tt) (λ c κs. tt) (λ c κs. tt) (λ c κs. tt) returns)
+steps-spec = tie.close (tie.spec (λ c κs. tt) (λ c κs. tt) (λ c κs. tt) (λ c κs. tt) returns)

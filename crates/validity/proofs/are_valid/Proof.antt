@@ -6,6 +6,7 @@ use mathlib.Core.Bool.{Bool, true}
 use native.Mathlib.Omega.{arith}
 use borrow.Author.Tests.{not-true, not-false}
 use denote.Ref.{now}
+use Rattle.bits.specs.Rows.{cellsOf}
 use Rattle.state.specs.Below.{eachBelow}
 use Rattle.state.proofs.Below.{each-none, each-goes, each-stop, each-done}
 use Rattle.validity.specs.Parts.{objectValid}
@@ -14,14 +15,14 @@ use Rattle.validity.proofs.are_valid.Tie as tie
 
 abbrev Inv-loop : tie.InvT-loop
 Inv-loop definitions structure transposed imports exports o₀ o =
-    (o ≤ 64) × (eachBelow o (objectValid definitions structure transposed imports exports) ≡ true)
+    (o ≤ 64) × (eachBelow o (objectValid definitions structure (cellsOf transposed) imports exports) ≡ true)
 
 abbrev μ-loop : tie.MeasureT-loop
 μ-loop definitions structure transposed imports exports o₀ o = 64 - o
 
 -- the test of one object
 abbrev objectTest : tie.Start Inv-loop μ-loop → ℕ → Bool
-objectTest c = objectValid (now (c .args .definitions)) (now (c .args .structure)) (now (c .args .transposed)) (now (c .args .imports)) (now (c .args .exports))
+objectTest c = objectValid (now (c .args .definitions)) (now (c .args .structure)) (cellsOf (now (c .args .transposed))) (now (c .args .imports)) (now (c .args .exports))
 
 loop-holds : tie.Need-loop-holds Inv-loop μ-loop
 loop-holds c = (omega arith, each-none _)
