@@ -7,6 +7,7 @@
 --     relations::in_row, in_column           hasFirst, hasSecond
 --     relations::seconds                     hasSecond, of each area
 --     relations::transposed, image           transpose, image
+--     relations::preimage                    image of the transpose, the part of it within a set
 pub mod Relations
 pub mod Claims
 pub mod Turning

@@ -10,7 +10,7 @@ use Rattle.access.specs.Lending.{lendingOf}
 use Rattle.access.specs.Answer.{access}
 use Rattle.search.specs.Rounds.{moveBy, reachable}
 
--- what `reaches` is asked of an object's rows, with the structure and its transpose, is access
+-- what is asked of an object's rows, with the structure and its transpose, is access
 abbrev pub ReachableIsAccess : Type 0
 ReachableIsAccess =
     (definitions structures : Rows) (transposed : Pairs) (imports exports : Rows) (o a : ℕ)

@@ -33,8 +33,8 @@ fn next<'a>(
 
 // The same for an object by itself, for which no transpose is made: the rows of those that import it are looked at.
 fn next_alone(layer: u32, structure: &[u32; 32], imported: u32, exported: u32) -> u32
-    ensures { λ r. ⌜ r ≡ nextTo (moveBy (cellsOf (now (structure .entry))) (transpose (cellsOf (now (structure .entry))))
-        (bit imported) (bit exported)) layer ⌝ }
+    ensures { λ r. ⌜ r ≡ nextTo (moveBy (cellsOf (now (structure .entry))) (transpose (cellsOf (now
+        (structure .entry)))) (bit imported) (bit exported)) layer ⌝ }
 {
     let outward = relations::image(structure, bits::intersection(layer, exported));
     let inward = relations::preimage(structure, layer, imported);

@@ -1,5 +1,5 @@
--- Validity of one object; and, not needed to believe a claim, what this crate's own functions promise each other, of the
--- rows that they are handed.
+-- Validity of one object; and, not needed to believe a claim, what this crate's own functions promise each other, of
+-- the rows that they are handed.
 use Prim.Native.Nat.{ℕ}
 use mathlib.Core.Bool.{Bool, _||_, not}
 use lib.ListN.{getD}
