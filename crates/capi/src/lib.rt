@@ -30,19 +30,18 @@ pub extern "C" fn panelrights_founding(state: &mut [u8]) -> u8
 }
 
 // Obeys one instruction: 0 and the state after it in place, or the refusal and no byte changed. Bytes that are no
-// record are the state of nothing, which is not sound: 12.
+// record are the state of nothing, which is not sound: 12. Where it is accepted, what it changes is written, and no more.
 #[no_mangle]
 pub extern "C" fn panelrights_step(state: &mut [u8], code: u8, activator: u8, a: u8, b: u8) -> u8
     ensures number { λ r. ⌜ r ≡ stepNumber (now (state .entry)) (fourBytes code activator a b) ⌝ }
     ensures buffer { λ _. ⌜ now (state .exit) ≡ stepBuffer (now (state .entry)) (fourBytes code activator a b) ⌝ }
 {
-    let outcome = machine::step(record_reader::state_of(state), code, activator, a, b);
-    let refusal = outcome.refusal;
+    let refusal = machine::refusal(record_reader::state_of(state), code, activator, a, b);
     if refusal != 0 {
         return refusal;
     }
-    let next = outcome.state;
-    record_writer::write(next, state)
+    record_changes::change(state, code, activator, a, b);
+    0
 }
 
 // Obeys a recipe, entirely or not at all: 0 and the state after it in place, or place * 256 + number and no byte

@@ -179,7 +179,14 @@ fn print_answer(answer: Answer) {
 }
 
 fn ask(s: State, area: u8, object: u8) {
-    let answer = search::steps(s, area, object);
+    let answer = search::steps(
+        &s.definitions,
+        &s.structure,
+        &s.imports,
+        &s.exports,
+        area,
+        object,
+    );
     print(b"  area ");
     print_number(area);
     print(b", object ");

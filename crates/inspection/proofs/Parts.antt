@@ -29,7 +29,7 @@ use Rattle.relations.proofs.Laws.{member-bit, pair-bit, row-empty}
 use Rattle.soundness.specs.Tests.{named, allOwn, allOwned, once, allDefined, someListed, isWellFormed, disjoint}
 use Rattle.soundness.proofs.Tests.{named-decided, Once, once-decided}
 use Rattle.soundness.proofs.Laws.{some-decided}
-use Rattle.inspection.specs.Parts.{rowNamed, userFits, objectFits, userAt, areaAt, objectAt, apartAt}
+use Rattle.inspection.specs.Parts.{rowNamed, userFits, objectFits, userAt, areaAt, objectAt, wellFormed, apartAt}
 
 -- ---- a number of a set of one row, or of the second row of two
 pub member-low : (set : Rows) (i : ℕ) → i < places → member (cellsOf set) i ≡ bit (getD set 0 0) i
@@ -309,31 +309,17 @@ module _ (s : State) (fits : Fits s) where
   reordered true false false im ex false owned defined some = refl
   reordered false de st im ex own owned defined some = refl
 
-  -- the whole test, by what the calls promise
-  pub well-formed-by-rows : (users structures low high owned none : Bool) (joined : ℕ)
-      → users ≡ eachBelow 32 userTest → structures ≡ eachBelow 32 (areaAt (s .structure) areas) → low ≡ eachBelow 32 (half 0 0) → high ≡ eachBelow 32 (half 32 1)
-      → joined ≡ word places (hasSecond (cellsOf (s .owners))) → owned ≡ isSubset areas joined → none ≡ isEmpty areas
-      → (users && structures && low && high && owned && not none) ≡ isWellFormed (site s)
-  unfolding site
-  well-formed-by-rows users structures low high owned none joined e0 e1 e2 e3 e4 e5 e6 =
-      ap (λ (b : Bool). b && owned && not none) (and-assoc (users && structures) low high)
-      ∙ (λ i. parts0 i && parts1 i && parts2 i && parts3 i && parts4 i)
+  -- the whole test
+  pub well-formed-by-rows : wellFormed (s .users) (s .areas) (s .objects) (s .owners) (s .definitions) (s .structure) (s .imports) (s .exports) ≡ isWellFormed (site s)
+  unfolding site wellFormed
+  well-formed-by-rows =
+      ap (λ (b : Bool). b && isSubset areas (word places (hasSecond (cellsOf (s .owners)))) && not (isEmpty areas))
+      (and-assoc (eachBelow 32 userTest && eachBelow 32 (areaAt (s .structure) areas)) (eachBelow 32 (half 0 0)) (eachBelow 32 (half 32 1)))
+      ∙ (λ i. users-by-rows i && areas-by-rows i && (halves ∙ each-object) i && owned-by-rows (s .areas) (s .owners) (fits .areas .long) i && some i)
       ∙ reordered (named (cellsOf (s .owners)) (cellsOf (s .users)) (cellsOf (s .areas))) (objectNames (s .definitions))
       (named (cellsOf (s .structure)) (cellsOf (s .areas)) (cellsOf (s .areas))) (objectNames (s .imports)) (objectNames (s .exports))
       (allOwn (cellsOf (s .users)) (cellsOf (s .owners))) (allOwned (cellsOf (s .areas)) (cellsOf (s .owners)))
       (allDefined (cellsOf (s .objects)) (cellsOf (s .definitions))) (someListed (cellsOf (s .areas)))
     where
-      parts0 : users ≡ (named (cellsOf (s .owners)) (cellsOf (s .users)) (cellsOf (s .areas)) && allOwn (cellsOf (s .users)) (cellsOf (s .owners)))
-      parts0 = e0 ∙ users-by-rows
-
-      parts1 : structures ≡ named (cellsOf (s .structure)) (cellsOf (s .areas)) (cellsOf (s .areas))
-      parts1 = e1 ∙ areas-by-rows
-
-      parts2 : (low && high) ≡ (objectNames (s .definitions) && objectNames (s .imports) && objectNames (s .exports) && allDefined (cellsOf (s .objects)) (cellsOf (s .definitions)))
-      parts2 = ap₂ _&&_ e2 e3 ∙ halves ∙ each-object
-
-      parts3 : owned ≡ allOwned (cellsOf (s .areas)) (cellsOf (s .owners))
-      parts3 = e5 ∙ ap (isSubset areas) e4 ∙ owned-by-rows (s .areas) (s .owners) (fits .areas .long)
-
-      parts4 : not none ≡ someListed (cellsOf (s .areas))
-      parts4 = ap not e6 ∙ some-by-row (s .areas) (s .owners) (fits .areas .long) (fits .areas .fit 0)
+      some : not (isEmpty areas) ≡ someListed (cellsOf (s .areas))
+      some = some-by-row (s .areas) (s .owners) (fits .areas .long) (fits .areas .fit 0)

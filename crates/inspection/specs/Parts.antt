@@ -2,8 +2,10 @@
 use Prim.Native.Nat.{ℕ, _+_}
 use mathlib.Core.Bool.{Bool, _&&_, _||_, not, cond}
 use lib.ListN.{getD}
-use Rattle.bits.specs.Bits.{bit, intersection, isEmpty, isSubset, isSingle}
-use Rattle.bits.specs.Rows.{Rows}
+use Rattle.bits.specs.Bits.{bit, word, intersection, isEmpty, isSubset, isSingle}
+use Rattle.bits.specs.Rows.{Rows, cellsOf}
+use Rattle.state.specs.Below.{eachBelow}
+use Rattle.state.specs.Walk.{hasSecond}
 
 -- each place of the row is a listed area, and there is none unless the row's own number is listed
 unfoldable pub rowNamed : (row : ℕ) (first : Bool) (areas : ℕ) → Bool
@@ -30,6 +32,16 @@ abbrev pub objectAt : (definitions imports exports : Rows) (from objects areas :
 objectAt definitions imports exports from objects areas k =
     objectFits (getD definitions (from + k) 0) (getD imports (from + k) 0) (getD exports (from + k) 0) (bit objects k)
     areas
+
+-- all of that for every user, area and object; and each area has an owner, and there is an area
+unfoldable pub wellFormed : (users areas objects owners definitions structure imports exports : Rows) → Bool
+wellFormed users areas objects owners definitions structure imports exports =
+    eachBelow 32 (userAt owners (getD users 0 0) (getD areas 0 0))
+    && eachBelow 32 (areaAt structure (getD areas 0 0))
+    && eachBelow 32 (objectAt definitions imports exports 0 (getD objects 0 0) (getD areas 0 0))
+    && eachBelow 32 (objectAt definitions imports exports 32 (getD objects 1 0) (getD areas 0 0))
+    && isSubset (getD areas 0 0) (word 32 (hasSecond (cellsOf owners)))
+    && not (isEmpty (getD areas 0 0))
 
 -- no place is in row o of both
 abbrev pub apartAt : (these those : Rows) → ℕ → Bool

@@ -10,7 +10,8 @@ ghost use Rattle.state.specs.Site.{area, members};
 ghost use Rattle.state.specs.Stands.{site};
 ghost use Rattle.soundness.specs.Sound.{NoOwnImport, Sound};
 ghost use Rattle.soundness.specs.Tests.{someListed, isWellFormed, noOwnImport, isSound};
-ghost use Rattle.inspection.specs.Parts.{rowNamed, userFits, objectFits, userAt, areaAt, objectAt, apartAt};
+ghost use Rattle.inspection.specs.Parts.{rowNamed, userFits, objectFits, userAt, areaAt, objectAt};
+ghost use Rattle.inspection.specs.Parts.{wellFormed, apartAt};
 use state::State;
 
 // Does each pair of a row name a listed area, and is there none unless the row's own number is listed?
@@ -92,20 +93,43 @@ pub fn has_area(s: State) -> bool
     !bits::is_empty(s.areas[0])
 }
 
+// Are the sets and relations consistent and acceptable, with at least one area?
+fn are_well_formed<'a>(
+    users: &'a [u32; 1],
+    areas: &'a [u32; 1],
+    objects: &'a [u32; 2],
+    owners: &'a [u32; 32],
+    definitions: &'a [u32; 64],
+    structure: &'a [u32; 32],
+    imports: &'a [u32; 64],
+    exports: &'a [u32; 64],
+) -> bool
+    ensures { λ r. ⌜ r ≡ wellFormed (now (users .entry)) (now (areas .entry)) (now (objects .entry)) (now (owners
+        .entry)) (now (definitions .entry)) (now (structure .entry)) (now (imports .entry)) (now (exports .entry)) ⌝ }
+{
+    let listed = areas[0];
+    users_fit(owners, users[0], listed)
+        & areas_fit(structure, listed)
+        & objects_fit(definitions, imports, exports, 0, objects[0], listed)
+        & objects_fit(definitions, imports, exports, 32, objects[1], listed)
+        & bits::is_subset(listed, relations::seconds(owners))
+        & !bits::is_empty(listed)
+}
+
 // Is the record consistent and acceptable, with at least one area?
 pub fn is_well_formed(s: State) -> bool
     ensures { λ r. ⌜ r ≡ isWellFormed (site s) ⌝ }
 {
-    let users = s.users[0];
-    let areas = s.areas[0];
-    let low = s.objects[0];
-    let high = s.objects[1];
-    users_fit(&s.owners, users, areas)
-        & areas_fit(&s.structure, areas)
-        & objects_fit(&s.definitions, &s.imports, &s.exports, 0, low, areas)
-        & objects_fit(&s.definitions, &s.imports, &s.exports, 32, high, areas)
-        & bits::is_subset(areas, relations::seconds(&s.owners))
-        & !bits::is_empty(areas)
+    are_well_formed(
+        &s.users,
+        &s.areas,
+        &s.objects,
+        &s.owners,
+        &s.definitions,
+        &s.structure,
+        &s.imports,
+        &s.exports,
+    )
 }
 
 // Is no pair in both relations?
@@ -127,16 +151,25 @@ pub fn has_no_own_import(s: State) -> bool
     are_disjoint(&s.imports, &s.definitions)
 }
 
-// Is the record sound? Any content may be asked about.
+// Is the record sound? Any content may be asked about. The arrays are lent to each test, so that no test copies them.
 pub fn is_sound(s: State) -> bool
     ensures equation { λ r. ⌜ r ≡ isSound (site s) ⌝ }
     ensures meaning { λ r. ⌜ T r ↔ Sound (site s) ⌝ }
 {
-    if !is_well_formed(s) {
+    if !are_well_formed(
+        &s.users,
+        &s.areas,
+        &s.objects,
+        &s.owners,
+        &s.definitions,
+        &s.structure,
+        &s.imports,
+        &s.exports,
+    ) {
         return false;
     }
-    if !validity::is_valid(s) {
+    if !are_disjoint(&s.imports, &s.definitions) {
         return false;
     }
-    has_no_own_import(s)
+    validity::are_valid(&s.definitions, &s.structure, &s.imports, &s.exports)
 }

@@ -59,6 +59,10 @@ pub accepted-meets-none : Claims.AcceptedMeetsNone
 unfolding stepOf stepRefusal
 accepted-meets-none s bytes e n = none-met-at (refusals s bytes) (all-numbered s bytes (decodeOf bytes)) e n
 
+pub number-is-refusal : Laws.NumberIsRefusal
+unfolding stepOf
+number-is-refusal s bytes = refl
+
 pub number-by-first : Laws.NumberByFirst
 unfolding stepOf stepRefusal
 number-by-first s bytes = refl

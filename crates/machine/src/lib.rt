@@ -6,7 +6,7 @@ ghost use Rattle.access.specs.Lending.{lending};
 ghost use Rattle.access.specs.Answer.{answer, answerNumber};
 ghost use Rattle.instructions.specs.Instructions.{fourBytes};
 ghost use Rattle.state.specs.Checks.{firstMet};
-ghost use Rattle.machine.specs.Step.{stepOf};
+ghost use Rattle.machine.specs.Step.{stepRefusal, stepOf};
 ghost use Rattle.machine.specs.Step.{questionRefusals, replyOf, replyNumber, replyValue, AnswerMeans};
 use access::Answer;
 use instructions::Decoded;
@@ -34,28 +34,30 @@ fn outcome_of(refusal: u8, state: State) -> Outcome
     }
 }
 
+// The number of the refusal that four bytes get with a record, both of any content; 0 for an instruction that is
+// accepted.
+pub fn refusal(s: State, code: u8, activator: u8, a: u8, b: u8) -> u8
+    ensures { λ r. ⌜ r ≡ stepRefusal (site s) (fourBytes code activator a b) ⌝ }
+{
+    if !inspection::is_sound(s) {
+        return 12;
+    }
+    let decoded = instructions::decode(code, activator, a, b);
+    let Decoded::Fits(x) = decoded else {
+        return instructions::misfit(decoded);
+    };
+    refusals::refusal_of(s, x, activator, a, b)
+}
+
 // What four bytes give with a record, both of any content.
 pub fn step(s: State, code: u8, activator: u8, a: u8, b: u8) -> Outcome
     ensures { λ r. ⌜ verdict (r .refusal) (site (r .state)) ≡ stepOf (site s) (fourBytes code activator a b) ⌝ }
 {
-    if !inspection::is_sound(s) {
-        return outcome_of(12, s);
+    let number = refusal(s, code, activator, a, b);
+    if number != 0 {
+        return outcome_of(number, s);
     }
-    let decoded = instructions::decode(code, activator, a, b);
-    let Decoded::Fits(x) = decoded else {
-        return outcome_of(instructions::misfit(decoded), s);
-    };
-    let rule = instructions::rule_of(x);
-    let early = refusals::early_refusal(readings::look(s, activator, a, b), rule);
-    if early != 0 {
-        return outcome_of(early, s);
-    }
-    let next = successors::successor(s, x, activator, a, b);
-    let late = refusals::late_refusal(next, rule, a, b);
-    if late != 0 {
-        return outcome_of(late, s);
-    }
-    outcome_of(0, next)
+    outcome_of(0, successors::next(s, code, activator, a, b))
 }
 
 // In how many steps has area a access to object b? Any record, and any numbers: 256 is no area, and not area 0. The
@@ -77,5 +79,12 @@ pub fn ask(s: State, a: u32, b: u32) -> Reply
     if !readings::are_listed(s, area, object) {
         return Reply::Refused(4);
     }
-    Reply::Answered(search::steps(s, area, object))
+    Reply::Answered(search::steps(
+        &s.definitions,
+        &s.structure,
+        &s.imports,
+        &s.exports,
+        area,
+        object,
+    ))
 }

@@ -1,7 +1,8 @@
 // What is read of a record, whatever it holds: what the checks of an instruction ask about, and single questions.
 ghost use mathlib.Core.Path.{_≡_};
 ghost use mathlib.Core.Bool.{_&&_};
-ghost use Rattle.state.specs.Site.{user, area, object, owner, listed, cells};
+ghost use Rattle.bits.specs.Rows.{cellsOf};
+ghost use Rattle.state.specs.Site.{user, area, object, owner, listed, cells, siteOf};
 ghost use Rattle.state.specs.Stands.{site};
 ghost use Rattle.state.specs.Walk.{hasFirst, hasSecond};
 ghost use Rattle.readings.specs.Readings.{seenOf, namesArea};
@@ -31,23 +32,38 @@ pub struct Seen {
     pub exported: bool,
 }
 
-// What those checks read: all of it at once, whatever the instruction.
-pub fn look(s: State, u: u8, a: u8, b: u8) -> Seen
-    ensures { λ r. ⌜ r ≡ seenOf (site s) u a b ⌝ }
+// What those checks read: all of it at once, whatever the instruction. The record is lent as its arrays, so that none is
+// copied.
+pub fn look<'a>(
+    users: &'a [u32; 1],
+    areas: &'a [u32; 1],
+    objects: &'a [u32; 2],
+    owners: &'a [u32; 32],
+    definitions: &'a [u32; 64],
+    structure: &'a [u32; 32],
+    imports: &'a [u32; 64],
+    exports: &'a [u32; 64],
+    u: u8,
+    a: u8,
+    b: u8,
+) -> Seen
+    ensures { λ r. ⌜ r ≡ seenOf (siteOf (cellsOf (now (users .entry))) (cellsOf (now (areas .entry))) (cellsOf (now
+        (objects .entry))) (cellsOf (now (owners .entry))) (cellsOf (now (definitions .entry))) (cellsOf (now
+        (structure .entry))) (cellsOf (now (imports .entry))) (cellsOf (now (exports .entry)))) u a b ⌝ }
 {
     Seen {
-        activator: relations::is_member(&s.users, u),
-        area: relations::is_member(&s.areas, a),
-        user: relations::is_member(&s.users, b),
-        outer: relations::is_member(&s.areas, b),
-        object: relations::is_member(&s.objects, b),
-        own: relations::is_pair(&s.owners, u, a),
-        other: relations::is_pair(&s.owners, u, b),
-        owned: relations::is_pair(&s.owners, b, a),
-        defined: relations::is_pair(&s.definitions, b, a),
-        inside: relations::is_pair(&s.structure, a, b),
-        imported: relations::is_pair(&s.imports, b, a),
-        exported: relations::is_pair(&s.exports, b, a),
+        activator: relations::is_member(users, u),
+        area: relations::is_member(areas, a),
+        user: relations::is_member(users, b),
+        outer: relations::is_member(areas, b),
+        object: relations::is_member(objects, b),
+        own: relations::is_pair(owners, u, a),
+        other: relations::is_pair(owners, u, b),
+        owned: relations::is_pair(owners, b, a),
+        defined: relations::is_pair(definitions, b, a),
+        inside: relations::is_pair(structure, a, b),
+        imported: relations::is_pair(imports, b, a),
+        exported: relations::is_pair(exports, b, a),
     }
 }
 

@@ -161,19 +161,11 @@ pub fn obey(s: State, recipe: &[u8], call: Call) -> RecipeOutcome
         let Decoded::Fits(x) = decoded else {
             return outcome_of(instructions::misfit(decoded), (k + 1) as u8, s);
         };
-        let rule = instructions::rule_of(x);
-        let early = refusals::early_refusal(
-            readings::look(reached, four.activator, four.a, four.b),
-            rule,
-        );
-        if early != 0 {
-            return outcome_of(early, (k + 1) as u8, s);
+        let refusal = refusals::refusal_of(reached, x, four.activator, four.a, four.b);
+        if refusal != 0 {
+            return outcome_of(refusal, (k + 1) as u8, s);
         }
         let next = successors::successor(reached, x, four.activator, four.a, four.b);
-        let late = refusals::late_refusal(next, rule, four.a, four.b);
-        if late != 0 {
-            return outcome_of(late, (k + 1) as u8, s);
-        }
         reached = next;
     }
     outcome_of(0, 0, reached)

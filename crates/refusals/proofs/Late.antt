@@ -4,7 +4,7 @@
 use Prim.Native.Nat.{ℕ, _<_}
 use mathlib.Core.Path.{_≡_, refl, sym, ap, subst, _∙_}
 use mathlib.Core.Logic.{_⊎_, inl, inr, _↔_}
-use mathlib.Core.Bool.{Bool, true, false, _&&_, _||_, not, cond}
+use mathlib.Core.Bool.{Bool, true, false, _&&_, _||_, not}
 use mathlib.Core.List.{List, [], _∷_, _++_}
 use lib.Dec.{T, eqb}
 use native.Mathlib.Decide.{ℕ-discrete}
@@ -24,17 +24,18 @@ use Rattle.soundness.specs.Tests.{someListed, isValid}
 use Rattle.soundness.proofs.Laws.{some-decided, valid-decided}
 use Rattle.validity.specs.Parts.{validFor}
 use Rattle.successors.specs.Successor.{withoutOwner, changed}
-use Rattle.state.specs.Checks.{Check, _when_, firstMet}
-use Rattle.readings.specs.declared.Seen.{Seen}
-use Rattle.refusals.specs.Refusals.{soleOwner, onlyArea, otherOwner, earlyChecks, lateChecks}
+use Rattle.state.specs.Checks.{Check, _when_}
+use Rattle.readings.specs.Readings.{seenOf}
+use Rattle.refusals.specs.Refusals.{soleOwner, onlyArea, otherOwner, earlyChecks, lateChecks, instructionChecks}
 use Rattle.refusals.specs.Claims
-use Rattle.refusals.specs.Parts.{cutsAccess, resultChecks}
+use Rattle.refusals.specs.Parts.{cutsAccess, resultChecks, foundChecks}
+use Rattle.instructions.specs.Instructions.{rule}
+use Rattle.instructions.specs.declared.Instruction.{Instruction}
 use Rattle.instructions.specs.declared.Rule.{Rule}
 use Rattle.instructions.specs.declared.Lookup.the-variants.{NoLookup}
 use Rattle.instructions.specs.declared.MustOwn.the-variants.{OwnsNothing}
 use Rattle.instructions.specs.declared.Target.{Target}
 use Rattle.instructions.specs.declared.Target.the-variants.{TheArea, Owner, Definition, Structure, Import, Export}
-use Rattle.state.proofs.Checks.{first-of-two}
 
 -- a row with this target, of an add (true) or a remove; what else it says is not read by the checks 8 to 11
 adding-or-not : Target → Bool → Rule
@@ -188,13 +189,6 @@ pub late-by-result : Claims.LateByResult
 unfolding adding-or-not
 late-by-result s sound r u a b = same-by s sound (r .target) (r .adds) u a b
 
--- the number of a rule's checks, from the two parts: those of what is seen, and those of the state that it would give
-pub checks-in-two : (s : Site) → Sound s → (v : Seen) (r : Rule) (u a b : ℕ)
-    → firstMet (earlyChecks v r ++ lateChecks s r u a b)
-    ≡ cond (eqb (firstMet (earlyChecks v r)) 0)
-    (firstMet (resultChecks (changed s (r .target) (r .adds) u a b) (r .target) (r .adds) a b))
-    (firstMet (earlyChecks v r))
-checks-in-two s sound v r u a b =
-    first-of-two (earlyChecks v r) (lateChecks s r u a b) tt
-    ∙ ap (λ (l : List Check). cond (eqb (firstMet (earlyChecks v r)) 0) (firstMet l) (firstMet (earlyChecks v r)))
-    (late-by-result s sound r u a b)
+-- so all the checks of an instruction are those that `refusal_of` makes
+pub found-by-result : (s : Site) → Sound s → (x : Instruction) (u a b : ℕ) → instructionChecks s x u a b ≡ foundChecks s x u a b
+found-by-result s sound x u a b = ap (λ (l : List Check). earlyChecks (seenOf s u a b) (rule x) ++ l) (late-by-result s sound (rule x) u a b)

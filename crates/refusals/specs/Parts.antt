@@ -1,19 +1,22 @@
 -- Not needed to believe a claim. The checks as the functions of this crate make them: a table from its numbers and
--- conditions; and 8 to 11 of the state t that an instruction would give.
+-- conditions; 8 to 11 of the state t that an instruction would give; and all of them.
 use Prim.Native.Nat.{ℕ}
 use mathlib.Core.Bool.{Bool, false, _&&_, not}
-use mathlib.Core.List.{List, [], _∷_}
+use mathlib.Core.List.{List, [], _∷_, _++_}
 use Rattle.state.specs.Checks.{Check, _when_}
 use Rattle.state.specs.Site.{Site, area, members, owner, cells}
 use Rattle.state.specs.Walk.{hasSecond}
-use Rattle.readings.specs.Readings.{namesArea}
+use Rattle.readings.specs.Readings.{seenOf, namesArea}
 use Rattle.access.specs.Lending.{lending}
 use Rattle.access.specs.Answer.{access}
 use Rattle.soundness.specs.Tests.{someListed, isValid}
 use Rattle.validity.specs.Parts.{validFor}
+use Rattle.instructions.specs.Instructions.{rule}
+use Rattle.instructions.specs.declared.Instruction.{Instruction}
 use Rattle.instructions.specs.declared.Target.{Target}
 use Rattle.instructions.specs.declared.Target.the-variants.{TheArea, Owner, Definition, Structure, Import, Export}
-use Rattle.refusals.specs.Refusals.{isEntry}
+use Rattle.successors.specs.Successor.{successor}
+use Rattle.refusals.specs.Refusals.{isEntry, earlyChecks}
 
 -- a table of numbers and conditions
 abbrev pub rowsOf : List ℕ → List Bool → List Check
@@ -56,3 +59,8 @@ resultChecks t target v a b =
     ∷ (10 when v && isEntry target && not (access (lending t b) a))
     ∷ (11 when not v && cutsAccess t target b)
     ∷ []
+
+-- the checks of an instruction as `refusal_of` makes them: the early ones, and then these
+abbrev pub foundChecks : Site → Instruction → (u a b : ℕ) → List Check
+foundChecks s x u a b =
+    earlyChecks (seenOf s u a b) (rule x) ++ resultChecks (successor s x u a b) (rule x .target) (rule x .adds) a b

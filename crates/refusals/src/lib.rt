@@ -1,17 +1,22 @@
 // When an instruction that the bytes fit is refused, and with which number: the early checks, of what was read of the
-// state given, and the late ones, of the state that the instruction would give.
+// state given, and the late ones, of the state that the instruction would give. Nothing is changed here.
 ghost use mathlib.Core.Path.{_≡_};
 ghost use mathlib.Core.Bool.{true, false};
 ghost use Prim.Native.Nat.{_≤_};
 ghost use lib.ListN.{length};
 ghost use Rattle.state.specs.Checks.{firstMet};
 ghost use Rattle.state.specs.Stands.{site};
-ghost use Rattle.access.specs.Lending.{lending};
+ghost use Rattle.bits.specs.Rows.{cellsOf};
+ghost use Rattle.access.specs.Lending.{lendingOf};
 ghost use Rattle.access.specs.Answer.{access};
-ghost use Rattle.instructions.specs.declared.Target.the-variants.{TheArea, Owner, Structure, Import};
+ghost use Rattle.validity.specs.Parts.{siteFor};
+ghost use Rattle.instructions.specs.Instructions.{rule};
+ghost use Rattle.instructions.specs.declared.Target.the-variants.{TheArea, Owner, Definition, Structure, Import, Export};
+ghost use Rattle.successors.specs.Successor.{changed, successor};
 ghost use Rattle.refusals.specs.Refusals.{bListed, missing, entitled, present, absent, ownImport, earlyChecks};
-ghost use Rattle.refusals.specs.Parts.{rowsOf, resultChecks};
+ghost use Rattle.refusals.specs.Parts.{rowsOf, resultChecks, foundChecks};
 use access::Answer;
+use instructions::Instruction;
 use instructions::Lookup;
 use instructions::MustOwn;
 use instructions::Rule;
@@ -115,7 +120,7 @@ fn first_of<'a>(numbers: &'a [u8], met: &'a [bool]) -> u8
 const EARLY: [u8; 6] = [3, 4, 5, 6, 7, 15];
 
 // The refusal by an early check, 0 if none is met.
-pub fn early_refusal(v: Seen, rule: Rule) -> u8
+fn early_refusal(v: Seen, rule: Rule) -> u8
     ensures { λ r. ⌜ r ≡ firstMet (earlyChecks v rule) ⌝ }
 {
     let lookup = rule.lookup;
@@ -133,21 +138,103 @@ pub fn early_refusal(v: Seen, rule: Rule) -> u8
     first_of(&numbers, &met)
 }
 
-// Has area a access to object b?
-fn has_access(s: State, a: u8, b: u8) -> bool
-    ensures { λ r. ⌜ r ≡ access (lending (site s) b) a ⌝ }
+// Has area a access to object b, by these relations?
+fn has_access<'a>(
+    definitions: &'a [u32; 64],
+    structure: &'a [u32; 32],
+    imports: &'a [u32; 64],
+    exports: &'a [u32; 64],
+    a: u8,
+    b: u8,
+) -> bool
+    ensures { λ r. ⌜ r ≡ access (lendingOf (cellsOf (now (definitions .entry))) (cellsOf (now (structure .entry))) (cellsOf
+        (now (imports .entry))) (cellsOf (now (exports .entry))) b) a ⌝ }
 {
-    match search::steps(s, a, b) {
+    match search::steps(definitions, structure, imports, exports, a, b) {
         Answer::Steps(_) => true,
         Answer::NoAccess => false,
     }
 }
 
-// The refusal of an import or export, of the state t that it would give: 10 if area a lacks access to object b.
-fn entry_refusal(t: State, a: u8, b: u8) -> u8
-    ensures { λ r. ⌜ r ≡ firstMet (resultChecks (site t) Import true a b) ⌝ }
+// The refusal of what is done to a pair of area a and object b, by the relations that there would be: of an import or
+// export that is added, 10 if the area lacks access; of a definition, import or export that is removed, 11 if an import
+// or export pair of the object does. Other objects have the access that they had.
+fn object_refusal<'a>(
+    definitions: &'a [u32; 64],
+    structure: &'a [u32; 32],
+    imports: &'a [u32; 64],
+    exports: &'a [u32; 64],
+    adds: bool,
+    a: u8,
+    b: u8,
+) -> u8
+    ensures { λ r. ⌜ r ≡ firstMet (resultChecks (siteFor (now (definitions .entry)) (now (structure .entry)) (now
+        (imports .entry)) (now (exports .entry))) Import adds a b) ⌝ }
 {
-    if has_access(t, a, b) { 0 } else { 10 }
+    if adds {
+        if has_access(definitions, structure, imports, exports, a, b) {
+            0
+        } else {
+            10
+        }
+    } else {
+        if validity::is_valid_for(definitions, structure, imports, exports, b) {
+            0
+        } else {
+            11
+        }
+    }
+}
+
+// The refusal of a removed definition of object b in area a.
+fn definition_refusal(s: State, a: u8, b: u8) -> u8
+    ensures { λ r. ⌜ r ≡ firstMet (resultChecks (changed (site s) Definition false 0 a b) Definition false a b) ⌝ }
+{
+    let mut definitions = s.definitions;
+    relations::put_in(&mut definitions, b, a, false);
+    object_refusal(
+        &definitions,
+        &s.structure,
+        &s.imports,
+        &s.exports,
+        false,
+        a,
+        b,
+    )
+}
+
+// The refusal of an import of object b by area a, added or removed.
+fn import_refusal(s: State, adds: bool, a: u8, b: u8) -> u8
+    ensures { λ r. ⌜ r ≡ firstMet (resultChecks (changed (site s) Import adds 0 a b) Import adds a b) ⌝ }
+{
+    let mut imports = s.imports;
+    relations::put_in(&mut imports, b, a, adds);
+    object_refusal(
+        &s.definitions,
+        &s.structure,
+        &imports,
+        &s.exports,
+        adds,
+        a,
+        b,
+    )
+}
+
+// The refusal of an export of object b by area a, added or removed.
+fn export_refusal(s: State, adds: bool, a: u8, b: u8) -> u8
+    ensures { λ r. ⌜ r ≡ firstMet (resultChecks (changed (site s) Export adds 0 a b) Export adds a b) ⌝ }
+{
+    let mut exports = s.exports;
+    relations::put_in(&mut exports, b, a, adds);
+    object_refusal(
+        &s.definitions,
+        &s.structure,
+        &s.imports,
+        &exports,
+        adds,
+        a,
+        b,
+    )
 }
 
 // The refusal of a removed structure pair: 11 if an import or export pair lacks access in the state t.
@@ -155,14 +242,6 @@ fn cut_refusal(t: State) -> u8
     ensures { λ r. ⌜ r ≡ firstMet (resultChecks (site t) Structure false 0 0) ⌝ }
 {
     if validity::is_valid(t) { 0 } else { 11 }
-}
-
-// The refusal of a removed definition, import or export of object b: 11 if an import or export pair of that object
-// lacks access in the state t. Other objects have the access that they had.
-fn object_refusal(t: State, b: u8) -> u8
-    ensures { λ r. ⌜ r ≡ firstMet (resultChecks (site t) Import false 0 b) ⌝ }
-{
-    if validity::is_valid_for(t, b) { 0 } else { 11 }
 }
 
 // The refusal of the removal of an owner: 8 if area a has none in the state t.
@@ -185,30 +264,62 @@ fn unlist_refusal(t: State, a: u8) -> u8
     0
 }
 
-// The refusal by a late check, of the state t that the instruction would give; 0 if none is met.
-pub fn late_refusal(t: State, rule: Rule, a: u8, b: u8) -> u8
-    ensures { λ r. ⌜ r ≡ firstMet (resultChecks (site t) (rule .target) (rule .adds) a b) ⌝ }
+// The refusal by a late check, 0 if none is met. Where a pair of an object is added or removed, the one relation that it
+// is in is changed; for the others the state is made that the instruction would give.
+fn late_refusal(s: State, x: Instruction, u: u8, a: u8, b: u8) -> u8
+    ensures { λ r. ⌜ r ≡ firstMet (resultChecks (successor (site s) x u a b) (rule x .target) (rule x .adds) a b) ⌝ }
 {
+    let rule = instructions::rule_of(x);
     let target = rule.target;
     let adds = rule.adds;
     match target {
-        Target::TheArea => { if adds { 0 } else { unlist_refusal(t, a) } }
-        Target::Owner => { if adds { 0 } else { disown_refusal(t, a) } }
-        Target::Definition => { if adds { 0 } else { object_refusal(t, b) } }
-        Target::Structure => { if adds { 0 } else { cut_refusal(t) } }
-        Target::Import => {
+        Target::TheArea => {
             if adds {
-                entry_refusal(t, a, b)
+                0
             } else {
-                object_refusal(t, b)
+                unlist_refusal(successors::successor(s, x, u, a, b), a)
             }
         }
-        Target::Export => {
+        Target::Owner => {
             if adds {
-                entry_refusal(t, a, b)
+                0
             } else {
-                object_refusal(t, b)
+                disown_refusal(successors::successor(s, x, u, a, b), a)
             }
         }
+        Target::Definition => { if adds { 0 } else { definition_refusal(s, a, b) } }
+        Target::Structure => {
+            if adds {
+                0
+            } else {
+                cut_refusal(successors::successor(s, x, u, a, b))
+            }
+        }
+        Target::Import => import_refusal(s, adds, a, b),
+        Target::Export => export_refusal(s, adds, a, b),
     }
+}
+
+// The refusal of an instruction, by what is read of the state and by what it would lead to; 0 if no check is met.
+pub fn refusal_of(s: State, x: Instruction, u: u8, a: u8, b: u8) -> u8
+    ensures { λ r. ⌜ r ≡ firstMet (foundChecks (site s) x u a b) ⌝ }
+{
+    let seen = readings::look(
+        &s.users,
+        &s.areas,
+        &s.objects,
+        &s.owners,
+        &s.definitions,
+        &s.structure,
+        &s.imports,
+        &s.exports,
+        u,
+        a,
+        b,
+    );
+    let early = early_refusal(seen, instructions::rule_of(x));
+    if early != 0 {
+        return early;
+    }
+    late_refusal(s, x, u, a, b)
 }

@@ -2,14 +2,12 @@
 ghost use mathlib.Core.Path.{_≡_};
 ghost use Rattle.bits.specs.Bits.{bit, isSubset};
 ghost use Rattle.bits.specs.Rows.{cellsOf};
-ghost use Rattle.state.specs.Stands.{site};
 ghost use Rattle.relations.specs.Relations.{transpose};
-ghost use Rattle.access.specs.Lending.{lending};
+ghost use Rattle.access.specs.Lending.{lendingOf};
 ghost use Rattle.access.specs.Answer.{longest, answerWithin, answer, answerNumber, leastCount};
 ghost use Rattle.access.specs.Claims.{Right};
 ghost use Rattle.search.specs.Rounds.{moveBy, nextTo, reachable};
 use access::Answer;
-use state::State;
 
 // How many steps are looked at: a longer chain gives no access.
 const LONGEST: u8 = 8;
@@ -134,14 +132,24 @@ fn least_steps(
     Answer::NoAccess
 }
 
-// The answer for one area and object. A number past the areas has no access.
-pub fn steps(s: State, area: u8, object: u8) -> Answer
-    ensures equation { λ r. ⌜ r ≡ answer (lending (site s) object) area ⌝ }
-    ensures meaning { λ r. ⌜ Right (lending (site s) object) area r ⌝ }
-    ensures number { λ r. ⌜ answerNumber r ≡ leastCount (lending (site s) object) area ⌝ }
+// The answer for one area and object, by the relations that access rests on. A number past the areas has no access.
+pub fn steps<'a>(
+    definitions: &'a [u32; 64],
+    structure: &'a [u32; 32],
+    imports: &'a [u32; 64],
+    exports: &'a [u32; 64],
+    area: u8,
+    object: u8,
+) -> Answer
+    ensures equation { λ r. ⌜ r ≡ answer (lendingOf (cellsOf (now (definitions .entry))) (cellsOf (now (structure .entry)))
+        (cellsOf (now (imports .entry))) (cellsOf (now (exports .entry))) object) area ⌝ }
+    ensures meaning { λ r. ⌜ Right (lendingOf (cellsOf (now (definitions .entry))) (cellsOf (now (structure .entry)))
+        (cellsOf (now (imports .entry))) (cellsOf (now (exports .entry))) object) area r ⌝ }
+    ensures number { λ r. ⌜ answerNumber r ≡ leastCount (lendingOf (cellsOf (now (definitions .entry))) (cellsOf (now
+        (structure .entry))) (cellsOf (now (imports .entry))) (cellsOf (now (exports .entry))) object) area ⌝ }
 {
-    let defined = relations::row_of(&s.definitions, object);
-    let imported = relations::row_of(&s.imports, object);
-    let exported = relations::row_of(&s.exports, object);
-    least_steps(defined, &s.structure, imported, exported, area)
+    let defined = relations::row_of(definitions, object);
+    let imported = relations::row_of(imports, object);
+    let exported = relations::row_of(exports, object);
+    least_steps(defined, structure, imported, exported, area)
 }

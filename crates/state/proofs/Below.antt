@@ -10,6 +10,8 @@
 --     some-at, some-by                    some number meets the test
 --     some-stop, some-done                a number that does, and none left
 --     first-is, first-none, first-met     the number that meets it while none before does, none at all, and that it does meet it
+--     first-under, first-at-most          none before it meets it, and it is none behind one that does
+--     first-within                        it is below n, or n
 -- Assumes nothing.
 use Prim.Native.Nat.{ℕ, zero, suc, _+_, _≤_, _<_}
 use mathlib.Core.Path.{_≡_, refl, sym, ap, ap₂, subst, _∙_}
@@ -219,6 +221,39 @@ module _ (f : ℕ → Bool) where
       go later (inl t) h = rw (is-true (f k) t) (is-true (f k) t)
       go later (inr e) h = let l : firstFrom f n (k + 1) < k + suc n = rw e at h in rw e (later (omega arith))
 
+  from-under : (n k m : ℕ) → k ≤ m → m < firstFrom f n k → f m ≡ false
+  unfolding firstFrom
+  from-under zero k m a h = absurd (omega arith)
+  from-under (suc n) k m a h = go (from-under n (k + 1) m) (test (f k)) (ℕ-discrete k m) h
+    where
+      first : ℕ
+      first = cond (f k) k (firstFrom f n (k + 1))
+
+      go : (k + 1 ≤ m → m < firstFrom f n (k + 1) → f m ≡ false) → T (f k) ⊎ (f k ≡ false) → Dec (k ≡ m) → m < first → f m ≡ false
+      go later (inl t) same h = let l : m < k = rw (is-true (f k) t) at h in absurd (omega arith)
+      go later (inr e) (yes s) h = rw s at e
+      go later (inr e) (no s) h = let l : m < firstFrom f n (k + 1) = rw e at h in later (omega arith) l
+
+  from-at-most : (n k m : ℕ) → k ≤ m → m < k + n → f m ≡ true → firstFrom f n k ≤ m
+  unfolding firstFrom
+  from-at-most zero k m a b t = absurd (omega arith)
+  from-at-most (suc n) k m a b t = go (from-at-most n (k + 1) m) (test (f k)) (ℕ-discrete k m)
+    where
+      go : (k + 1 ≤ m → m < k + 1 + n → f m ≡ true → firstFrom f n (k + 1) ≤ m) → T (f k) ⊎ (f k ≡ false) → Dec (k ≡ m)
+          → cond (f k) k (firstFrom f n (k + 1)) ≤ m
+      go later (inl s) same = rw (is-true (f k) s) a
+      go later (inr e) (yes s) = absurd (fails e (subst (λ (i : ℕ). T (f i)) (sym s) (holds t)))
+      go later (inr e) (no s) = rw e (later (omega arith) (omega arith) t)
+
+  from-within : (n k : ℕ) → firstFrom f n k ≤ k + n
+  unfolding firstFrom
+  from-within zero k = omega arith
+  from-within (suc n) k = go (f k) (from-within n (k + 1))
+    where
+      go : (v : Bool) → firstFrom f n (k + 1) ≤ k + 1 + n → cond v k (firstFrom f n (k + 1)) ≤ k + suc n
+      go true later = omega arith
+      go false later = omega arith
+
   -- and of those below n
   pub first-none : (n : ℕ) → ((k : ℕ) → k < n → f k ≡ false) → firstBelow n f ≡ n
   first-none n none = from-none n 0 (λ m a b. none m (omega arith)) ∙ omega arith
@@ -228,3 +263,12 @@ module _ (f : ℕ → Bool) where
 
   pub first-met : (n : ℕ) → firstBelow n f < n → f (firstBelow n f) ≡ true
   first-met n h = from-met n 0 (omega arith)
+
+  pub first-under : (n m : ℕ) → m < firstBelow n f → f m ≡ false
+  first-under n m h = from-under n 0 m (omega arith) h
+
+  pub first-at-most : (n m : ℕ) → m < n → f m ≡ true → firstBelow n f ≤ m
+  first-at-most n m h t = from-at-most n 0 m (omega arith) (omega arith) t
+
+  pub first-within : (n : ℕ) → firstBelow n f ≤ n
+  first-within n = let h : firstBelow n f ≤ 0 + n = from-within n 0 in omega arith

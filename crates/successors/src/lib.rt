@@ -1,7 +1,10 @@
 // The state that an instruction gives.
 ghost use mathlib.Core.Path.{_≡_};
 ghost use Rattle.state.specs.Stands.{site};
-ghost use Rattle.successors.specs.Successor.{withoutOwner, changed, successor};
+ghost use Rattle.successors.specs.Successor.{withoutOwner, changed, successor, successorOf};
+ghost use Rattle.instructions.specs.Instructions.{fourBytes};
+ghost use Rattle.instructions.specs.Decode.{decodeOf};
+use instructions::Decoded;
 use instructions::Instruction;
 use instructions::Target;
 use state::State;
@@ -50,4 +53,15 @@ pub fn successor(s: State, x: Instruction, u: u8, a: u8, b: u8) -> State
     let rule = instructions::rule_of(x);
     let target = rule.target;
     changed(s, target, rule.adds, u, a, b)
+}
+
+// The same for four bytes, by what they fit; those that fit no instruction change nothing.
+pub fn next(s: State, code: u8, activator: u8, a: u8, b: u8) -> State
+    ensures { λ r. ⌜ site r ≡ successorOf (site s) (fourBytes code activator a b) (decodeOf (fourBytes code activator a
+        b)) ⌝ }
+{
+    let Decoded::Fits(x) = instructions::decode(code, activator, a, b) else {
+        return s;
+    };
+    successor(s, x, activator, a, b)
 }

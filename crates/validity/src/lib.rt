@@ -7,7 +7,7 @@ ghost use Rattle.state.specs.Below.{eachBelow};
 ghost use Rattle.state.specs.Stands.{site};
 ghost use Rattle.soundness.specs.Sound.{Valid};
 ghost use Rattle.soundness.specs.Tests.{isValid};
-ghost use Rattle.validity.specs.Parts.{validFor, reachesEach, objectValid};
+ghost use Rattle.validity.specs.Parts.{siteFor, validFor, reachesEach, objectValid};
 use state::State;
 
 // Has each area that imports or exports an object access to it? The object is given by its rows.
@@ -27,7 +27,7 @@ fn reaches_each<'a>(
 
 // For each import or export pair of the 64 objects, has the area access to the object? Every object is asked about,
 // listed or not: pairs of one that is not listed count.
-fn are_valid<'a>(
+fn each_is_valid<'a>(
     definitions: &'a [u32; 64],
     structure: &'a [u32; 32],
     transposed: &'a [u32; 32],
@@ -51,28 +51,43 @@ fn are_valid<'a>(
     true
 }
 
+// The same, with the transpose made here. Whoever has a record lends its relations, and it is not copied. Any content
+// may be asked about.
+pub fn are_valid<'a>(
+    definitions: &'a [u32; 64],
+    structure: &'a [u32; 32],
+    imports: &'a [u32; 64],
+    exports: &'a [u32; 64],
+) -> bool
+    ensures { λ r. ⌜ r ≡ eachBelow 64 (validFor (siteFor (now (definitions .entry)) (now (structure .entry)) (now
+        (imports .entry)) (now (exports .entry)))) ⌝ }
+{
+    let transposed = relations::transposed(structure);
+    each_is_valid(definitions, structure, &transposed, imports, exports)
+}
+
 // Is the record valid? Any content may be asked about.
 pub fn is_valid(s: State) -> bool
     ensures equation { λ r. ⌜ r ≡ isValid (site s) ⌝ }
     ensures meaning { λ r. ⌜ T r ↔ Valid (site s) ⌝ }
 {
-    let transposed = relations::transposed(&s.structure);
-    are_valid(
-        &s.definitions,
-        &s.structure,
-        &transposed,
-        &s.imports,
-        &s.exports,
-    )
+    are_valid(&s.definitions, &s.structure, &s.imports, &s.exports)
 }
 
-// Is it valid as far as one object goes: has each area that imports or exports the object access to it?
-pub fn is_valid_for(s: State, object: u8) -> bool
-    ensures { λ r. ⌜ r ≡ validFor (site s) object ⌝ }
+// Are the relations valid as far as one object goes: has each area that imports or exports the object access to it?
+pub fn is_valid_for<'a>(
+    definitions: &'a [u32; 64],
+    structure: &'a [u32; 32],
+    imports: &'a [u32; 64],
+    exports: &'a [u32; 64],
+    object: u8,
+) -> bool
+    ensures { λ r. ⌜ r ≡ validFor (siteFor (now (definitions .entry)) (now (structure .entry)) (now (imports .entry))
+        (now (exports .entry))) object ⌝ }
 {
-    let defined = relations::row_of(&s.definitions, object);
-    let imported = relations::row_of(&s.imports, object);
-    let exported = relations::row_of(&s.exports, object);
+    let defined = relations::row_of(definitions, object);
+    let imported = relations::row_of(imports, object);
+    let exported = relations::row_of(exports, object);
     let wanted = bits::union(imported, exported);
-    search::reaches_alone(defined, &s.structure, imported, exported, wanted)
+    search::reaches_alone(defined, structure, imported, exported, wanted)
 }

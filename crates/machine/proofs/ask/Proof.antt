@@ -61,13 +61,13 @@ cast-object : tie.Need-cast-object
 cast-object c = omega (arith, ranged c .1)
 
 -- ---- what is known on the way
-unsound : (c : tie.Then1) → not (isSound (site (c .before .before .args .s))) ≡ true
+unsound : (c : tie.Then1) → not (isSound (site (c .before .before .args .t1))) ≡ true
 unsound c = sym (ap not (c .before .is-sound .ensures .0)) ∙ c .if1 .taken
 
-sound : (c : tie.Else1) → not (isSound (site (c .before .before .args .s))) ≡ false
+sound : (c : tie.Else1) → not (isSound (site (c .before .before .args .t1))) ≡ false
 sound c = sym (ap not (c .before .is-sound .ensures .0)) ∙ c .if1 .left
 
-unlisted : (c : tie.After-are-listed) (v : Bool) → not (c .are-listed .result) ≡ v → let x = c .before .before .before .before .args in not (listed (site (x .s)) area (x .a) && listed (site (x .s)) object (x .b)) ≡ v
+unlisted : (c : tie.After-are-listed) (v : Bool) → not (c .are-listed .result) ≡ v → let x = c .before .before .before .before .args in not (listed (site (x .t1)) area (x .a) && listed (site (x .t1)) object (x .b)) ≡ v
 unlisted c v e = sym (ap not (c .are-listed .ensures)) ∙ e
 
 -- ---- what is returned
@@ -85,10 +85,11 @@ returns-3 c =
     ∙ met _ _ (unlisted (c .before) true (c .if3 .taken)))
 
 returns-4 : tie.Need-returns-4
+unfolding site
 returns-4 c =
-    let listed = c .before in
+    let listed = c .before .before .before .before .before .before in
     let in-range = listed .before .before in
-    answering (site (in-range .before .before .before .args .s)) _ _ _ (c .steps .ensures .0) (c .steps .ensures .1 .0)
+    answering (site (in-range .before .before .before .args .t1)) _ _ _ (c .steps .ensures .0) (c .steps .ensures .1 .0)
     (passed _ _ (sound (in-range .before)) ∙ passed _ _ (in-range .if2 .left) ∙ passed _ _ (unlisted (listed .before) false (listed .if3 .left)) ∙ none-met)
 
 pub ask-spec : {M : Type 1} → statement M

@@ -1,24 +1,22 @@
 -- `readings::look` meets its contract: its calls, in the order of the fields.
 -- Assumes nothing.
-use Rattle.state.specs.Stands.{site}
 use Rattle.readings.proofs.look.Statement.{statement}
 use Rattle.readings.proofs.look.Tie as tie
 
 returns : tie.Need-returns
-unfolding site
 returns c =
     let exported-at = c in
-    let imported-at = exported-at .before .before .before .before in
-    let inside-at = imported-at .before .before .before .before in
-    let defined-at = inside-at .before .before .before .before in
-    let owned-at = defined-at .before .before .before .before in
-    let other-at = owned-at .before .before .before .before in
-    let own-at = other-at .before .before .before .before in
-    let object-at = own-at .before .before .before .before in
-    let outer-at = object-at .before .before .before .before in
-    let user-at = outer-at .before .before .before .before in
-    let area-at = user-at .before .before .before .before in
-    let activator-at = area-at .before .before .before .before in
+    let imported-at = exported-at .before .before in
+    let inside-at = imported-at .before .before in
+    let defined-at = inside-at .before .before in
+    let owned-at = defined-at .before .before in
+    let other-at = owned-at .before .before in
+    let own-at = other-at .before .before in
+    let object-at = own-at .before .before in
+    let outer-at = object-at .before .before in
+    let user-at = outer-at .before .before in
+    let area-at = user-at .before .before in
+    let activator-at = area-at .before .before in
     λ i. record {
       activator = activator-at .is-member .ensures i;
       area = area-at .is-member2 .ensures i;

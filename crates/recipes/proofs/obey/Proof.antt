@@ -2,7 +2,7 @@
 -- the recipe gives; and the state reached is sound.
 -- Assumes nothing.
 use Prim.Native.Nat.{_-_, _≤_}
-use mathlib.Core.Path.{_≡_, sym, _∙_}
+use mathlib.Core.Path.{_≡_, sym, ap, _∙_}
 use mathlib.Core.Bool.{true, false}
 use native.Mathlib.Omega.{arith}
 use borrow.Author.Needs.{needs}
@@ -13,9 +13,10 @@ use Rattle.state.proofs.Bools.{so, not-so, holds, is-true, is-false}
 use Rattle.soundness.specs.Sound.{Sound}
 use Rattle.soundness.specs.Tests.{isSound}
 use Rattle.instructions.specs.Instructions.{Bytes, fourBytes}
-use Rattle.machine.specs.Step.{stepOf}
+use Rattle.successors.specs.Successor.{successorOf}
+use Rattle.machine.specs.Step.{stepRefusal, stepOf}
 use Rattle.recipes.specs.Recipe.{misformed}
-use Rattle.machine.proofs.Decide.{unfit-step, Fitted, fitted, early-step, late-step, accepted-step}
+use Rattle.machine.proofs.Decide.{misfit-number, found-number, refused-step, accepted-step}
 use Rattle.recipes.proofs.Running.{not-unsound, Runs, begins, goes-on, stays-sound, stops, ends}
 use Rattle.recipes.proofs.Laws.{unsound-recipe, misformed-recipe, whole-count}
 use Rattle.recipes.proofs.obey.Statement.{statement}
@@ -44,24 +45,25 @@ sound c = sym (c .before .is-sound .ensures .0) ∙ is-true _ (so (c .before .is
 formed : (c : tie.Else2 Inv-loop μ-loop) → misformed (now (c .before .before .before .before .before .args .recipe)) ≡ false
 formed c = sym (c .before .is-misformed .ensures) ∙ c .if2 .left
 
--- the bytes fit an instruction, and the early checks are made
-abbrev made : tie.After-early-refusal Inv-loop μ-loop → tie.After-instruction-at Inv-loop μ-loop
-made c = c .before .before .before .before .before .before .before
+-- the bytes fit an instruction, and its checks are made
+abbrev made : tie.After-refusal-of Inv-loop μ-loop → tie.After-instruction-at Inv-loop μ-loop
+made c = c .before .before .before .before .before
 
-turn : (c : tie.After-early-refusal Inv-loop μ-loop) → let x = c .before .before .before .before .decoded .given .0 .0 in
-    Fitted (here (made c)) (four-bytes (made c)) x (c .before .before .rule-of .result) (c .early-refusal .result)
-turn c =
-    let at = c .before .before .before .before in
+numbered : (c : tie.After-refusal-of Inv-loop μ-loop) → c .refusal-of .result ≡ stepRefusal (here (made c)) (four-bytes (made c))
+numbered c =
+    let fits = c .before .before in
     let sound = made c .before .before .loop .inv .2 in
-    fitted _ _ (sound .shaped) (not-unsound _ sound) (at .before .before .decode .ensures .0) (at .decoded .given .0 .0) (at .decoded .given .1)
-    (c .before .look .ensures) (c .before .before .rule-of .ensures) (c .early-refusal .ensures)
+    found-number _ _ (sound .shaped) (not-unsound _ sound) (fits .before .before .decode .ensures .0) (fits .decoded .given .0 .0) (fits .decoded .given .1)
+    (c .refusal-of .ensures)
 
 -- no check is met
-accepted : (c : tie.Else4 Inv-loop μ-loop) → let at = made (c .before .before .before .before) in
-    verdict 0 (site (c .before .before .successor .result)) ≡ stepOf (here at) (four-bytes at)
+accepted : (c : tie.After-successor Inv-loop μ-loop) → let at = made (c .before .before) in
+    verdict 0 (site (c .successor .result)) ≡ stepOf (here at) (four-bytes at)
 accepted c =
-    let next = c .before .before in
-    accepted-step _ _ (turn (next .before .before)) (next .before .if3 .left) (next .successor .ensures) (c .before .late-refusal .ensures) (c .if4 .left)
+    let asked = c .before in
+    let fits = asked .before .before .before in
+    accepted-step _ _ (numbered (asked .before)) (asked .if3 .left)
+    (c .successor .ensures ∙ ap (successorOf _ _) (sym (fits .decoded .given .1) ∙ fits .before .before .decode .ensures .0))
 
 -- ---- what is returned
 returns : tie.Need-returns Inv-loop μ-loop
@@ -84,8 +86,8 @@ returns-3 c =
     let at = decode .before in
     let loop = at .before .before .loop in
     let d = decode .decode in
-    let stepped = unfit-step (here at) (four-bytes at) (not-unsound _ (loop .inv .2)) (d .result) (d .ensures .0) (misfit .before .match .keys2) (misfit .misfit .ensures) in
-    c .outcome-of3 .ensures ∙ stops _ _ _ _ _ (loop .inv .2) (loop .inv .3) (omega arith) (at .instruction-at .ensures) (stepped .0) (stepped .1)
+    let number = misfit-number (here at) (four-bytes at) (not-unsound _ (loop .inv .2)) (d .result) (d .ensures .0) (misfit .before .match .keys2) (misfit .misfit .ensures) in
+    c .outcome-of3 .ensures ∙ stops _ _ _ _ _ (loop .inv .2) (loop .inv .3) (omega arith) (at .instruction-at .ensures) (refused-step _ _ (number .0) (number .1)) (number .1)
 
 returns-4 : tie.Need-returns-4 Inv-loop μ-loop
 returns-4 c =
@@ -93,29 +95,14 @@ returns-4 c =
     let at = made (taken .before) in
     let loop = at .before .before .loop in
     c .outcome-of4 .ensures ∙ stops _ _ _ _ _ (loop .inv .2) (loop .inv .3) (omega arith) (at .instruction-at .ensures)
-    (early-step _ _ (turn (taken .before)) (taken .if3 .taken)) (taken .if3 .taken)
-
-add-outcome-of-3 : tie.Need-add-outcome-of-3 Inv-loop μ-loop
-add-outcome-of-3 c = let inv = made (c .before .before .before .before) .before .before .loop .inv in omega (arith, inv .0, inv .1)
-
-cast-outcome-of-3 : tie.Need-cast-outcome-of-3 Inv-loop μ-loop
-cast-outcome-of-3 c = let inv = made (c .before .before .before .before) .before .before .loop .inv in omega (arith, inv .0, inv .1)
-
-returns-5 : tie.Need-returns-5 Inv-loop μ-loop
-returns-5 c =
-    let taken = c .before in
-    let next = taken .before .before in
-    let at = made (next .before .before) in
-    let loop = at .before .before .loop in
-    let late = late-step _ _ (turn (next .before .before)) (next .before .if3 .left) (next .successor .ensures) (taken .before .late-refusal .ensures) in
-    c .outcome-of5 .ensures ∙ stops _ _ _ _ _ (loop .inv .2) (loop .inv .3) (omega arith) (at .instruction-at .ensures) (late (taken .if4 .taken)) (taken .if4 .taken)
+    (refused-step _ _ (numbered (taken .before)) (taken .if3 .taken)) (taken .if3 .taken)
 
 add-k : tie.Need-add-k Inv-loop μ-loop
-add-k c = let inv = made (c .before .before .before .before) .before .before .loop .inv in omega (arith, inv .0, inv .1)
+add-k c = let inv = made (c .before .before) .before .before .loop .inv in omega (arith, inv .0, inv .1)
 
 loop-again : tie.Need-loop-again Inv-loop μ-loop
 loop-again c =
-    let at = made (c .before .before .before .before) in
+    let at = made (c .before .before) in
     let inv = at .before .before .loop .inv in (
       omega arith,
       inv .1,
@@ -123,16 +110,15 @@ loop-again c =
       goes-on _ _ _ _ _ (inv .2) (inv .3) (omega arith) (at .instruction-at .ensures) (accepted c),
     )
 
-returns-6 : tie.Need-returns-6 Inv-loop μ-loop
-returns-6 c =
+returns-5 : tie.Need-returns-5 Inv-loop μ-loop
+returns-5 c =
     let inv = c .before .before .loop .inv in
-    c .outcome-of6 .ensures ∙ ends _ _ _ _ _ (inv .2) (inv .3) (omega arith)
+    c .outcome-of5 .ensures ∙ ends _ _ _ _ _ (inv .2) (inv .3) (omega arith)
 
 pub obey-spec : {M : Type 1} → statement M
 obey-spec =
     tie.close
     (tie.spec Inv-loop μ-loop (λ c κs. tt) (λ c κs. tt) returns (λ c κs. tt) (λ c κs. tt) returns-2 loop-holds (λ c κs. omega arith)
     (λ c κs. tt) (λ c. search needs) (λ c κs. tt) (λ c. omega arith) (λ c. omega arith) (λ c κs. tt) returns-3
-    (λ c κs. tt) (λ c κs. tt) (λ c κs. tt) (λ c. omega arith) (λ c. omega arith) (λ c κs. tt) returns-4
-    (λ c κs. tt) (λ c κs. tt) add-outcome-of-3 cast-outcome-of-3 (λ c κs. tt) returns-5
-    add-k (λ c. omega arith) loop-again (λ c κs. tt) returns-6)
+    (λ c κs. tt) (λ c. omega arith) (λ c. omega arith) (λ c κs. tt) returns-4
+    (λ c κs. tt) add-k (λ c. omega arith) loop-again (λ c κs. tt) returns-5)

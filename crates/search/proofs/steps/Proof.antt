@@ -5,7 +5,6 @@ use mathlib.Core.Path.{_≡_, refl, sym, ap, subst, _∙_}
 use lib.ListN.{getD}
 use Rattle.bits.specs.Bits.{bit}
 use Rattle.bits.specs.Rows.{Rows, cellsOf}
-use Rattle.state.specs.Stands.{site}
 use Rattle.relations.specs.Relations.{transpose}
 use Rattle.access.specs.Lending.{Lending, lendingOf}
 use Rattle.access.specs.Answer.{longest, answerWithin, answer, answerNumber, leastCount}
@@ -29,11 +28,10 @@ answered : (ds st im ex : Rows) (o a defined imported exported : ℕ) (x : Answe
 answered ds st im ex o a defined imported exported x d m e p = p ∙ rw (d, m, e) (same-answer ds st (transpose (cellsOf st)) im ex o refl a)
 
 returns : tie.Need-returns
-unfolding site
 returns c =
-    let exported = c .before .before .before in
-    let imported = exported .before .before .before .before in
-    let defined = imported .before .before .before .before in
+    let exported = c .before in
+    let imported = exported .before .before in
+    let defined = imported .before .before in
     promised _ _ _
     (answered _ _ _ _ _ _ _ _ _ _ (defined .row-of .ensures) (imported .row-of2 .ensures) (exported .row-of3 .ensures)
     (c .least-steps .ensures))
