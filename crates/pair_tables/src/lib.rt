@@ -1,11 +1,11 @@
 // A table of pairs, as a slice of its own bytes: whether it is in range and ascending, and the relation that it holds.
 ghost use mathlib.Core.Path.{_≡_};
-ghost use Prim.Native.Nat.{_+_, _*_, _≤_};
+ghost use Prim.Native.Nat.{_+_, _*_, _≤_, _<_};
 ghost use lib.ListN.{length, set};
 ghost use Rattle.state.specs.Below.{eachBelow};
 ghost use Rattle.bits.specs.Rows.{cellsOf};
-ghost use Rattle.pair_tables.specs.Pairs.{pairsFit, earlier, pairsAscend, withPairs};
-ghost use Rattle.pair_tables.specs.Runs.{pairFitsFrom};
+ghost use Rattle.pair_tables.specs.Pairs.{secondByte, pairsFit, pairsAscend, withPairs};
+ghost use Rattle.pair_tables.specs.Runs.{pairFitsFrom, numberAt};
 use state::State;
 
 // How many bytes a pair has.
@@ -40,29 +40,29 @@ pub fn all_fit(table: &[u8], limit: u8) -> bool
     fits & run_fits(table, k, count - k, limit)
 }
 
-// Does (i, j) come before (m, n), by first number and then by second?
-fn is_earlier(i: u8, j: u8, m: u8, n: u8) -> bool
-    ensures { λ r. ⌜ r ≡ earlier i j m n ⌝ }
+// The two bytes of pair k as one number, the first as the high one: of two pairs the earlier has the lower number.
+fn number_at(table: &[u8], k: usize) -> u16
+    requires { ⌜ k * 2 + 1 < length (now table) ⌝ }
+    ensures number { λ r. ⌜ r ≡ numberAt (now (table .entry)) k ⌝ }
+    ensures low_byte { λ _. ⌜ secondByte (now (table .entry)) k < 256 ⌝ }
 {
-    i as u16 * 256 + (j as u16) < m as u16 * 256 + n as u16
+    table[k * PAIR_SIZE] as u16 * 256 + table[k * PAIR_SIZE + 1] as u16
 }
 
-// Does each pair come before the next?
+// Does each pair come before the next? The number of the last pair is carried along, so that each pair is read once.
 pub fn all_ascend(table: &[u8]) -> bool
     ensures { λ r. ⌜ r ≡ pairsAscend (now (table .entry)) ⌝ }
 {
     let count = table.len() / PAIR_SIZE;
-    let mut k: usize = 0;
+    if count == 0 {
+        return true;
+    }
+    let mut last = number_at(table, 0);
     let mut ascends = true;
-    while k + 1 < count {
-        ascends = ascends
-            & is_earlier(
-                table[k * PAIR_SIZE],
-                table[k * PAIR_SIZE + 1],
-                table[(k + 1) * PAIR_SIZE],
-                table[(k + 1) * PAIR_SIZE + 1],
-            );
-        k = k + 1;
+    for k in 1..count {
+        let next = number_at(table, k);
+        ascends = ascends & (last < next);
+        last = next;
     }
     ascends
 }

@@ -1,7 +1,7 @@
 -- Not needed to believe a claim. The checks as the functions of this crate make them: a table from its numbers and
 -- conditions; 8 to 11 of the state t that an instruction would give; and all of them.
 use Prim.Native.Nat.{ℕ}
-use mathlib.Core.Bool.{Bool, false, _&&_, not}
+use mathlib.Core.Bool.{Bool, true, false, _&&_, not}
 use mathlib.Core.List.{List, [], _∷_, _++_}
 use Rattle.state.specs.Checks.{Check, _when_}
 use Rattle.state.specs.Site.{Site, area, members, owner, cells}
@@ -59,6 +59,15 @@ resultChecks t target v a b =
     ∷ (10 when v && isEntry target && not (access (lending t b) a))
     ∷ (11 when not v && cutsAccess t target b)
     ∷ []
+
+-- a pair of an object
+abbrev pub ofObject : Target → Bool
+ofObject TheArea = false
+ofObject Owner = false
+ofObject Definition = true
+ofObject Structure = false
+ofObject Import = true
+ofObject Export = true
 
 -- the checks of an instruction as `refusal_of` makes them: the early ones, and then these
 abbrev pub foundChecks : Site → Instruction → (u a b : ℕ) → List Check

@@ -3,6 +3,7 @@
 ghost use mathlib.Core.Path.{_≡_};
 ghost use mathlib.Core.Bool.{true, false};
 ghost use Prim.Native.Nat.{_≤_};
+ghost use lib.Dec.{T};
 ghost use lib.ListN.{length};
 ghost use Rattle.state.specs.Checks.{firstMet};
 ghost use Rattle.state.specs.Stands.{site};
@@ -14,7 +15,7 @@ ghost use Rattle.instructions.specs.Instructions.{rule};
 ghost use Rattle.instructions.specs.declared.Target.the-variants.{TheArea, Owner, Definition, Structure, Import, Export};
 ghost use Rattle.successors.specs.Successor.{changed, successor};
 ghost use Rattle.refusals.specs.Refusals.{bListed, missing, entitled, present, absent, ownImport, earlyChecks};
-ghost use Rattle.refusals.specs.Parts.{rowsOf, resultChecks, foundChecks};
+ghost use Rattle.refusals.specs.Parts.{rowsOf, ofObject, resultChecks, foundChecks};
 use access::Answer;
 use instructions::Instruction;
 use instructions::Lookup;
@@ -159,7 +160,7 @@ fn has_access<'a>(
 // The refusal of what is done to a pair of area a and object b, by the relations that there would be: of an import or
 // export that is added, 10 if the area lacks access; of a definition, import or export that is removed, 11 if an import
 // or export pair of the object does. Other objects have the access that they had.
-fn object_refusal<'a>(
+fn pair_refusal<'a>(
     definitions: &'a [u32; 64],
     structure: &'a [u32; 32],
     imports: &'a [u32; 64],
@@ -186,55 +187,60 @@ fn object_refusal<'a>(
     }
 }
 
-// The refusal of a removed definition of object b in area a.
-fn definition_refusal(s: State, a: u8, b: u8) -> u8
-    ensures { λ r. ⌜ r ≡ firstMet (resultChecks (changed (site s) Definition false 0 a b) Definition false a b) ⌝ }
+// Is the target a pair of an object?
+fn is_of_object(target: Target) -> bool
+    ensures { λ r. ⌜ r ≡ ofObject target ⌝ }
 {
-    let mut definitions = s.definitions;
-    relations::put_in(&mut definitions, b, a, false);
-    object_refusal(
-        &definitions,
-        &s.structure,
-        &s.imports,
-        &s.exports,
-        false,
-        a,
-        b,
-    )
+    match target {
+        Target::TheArea => false,
+        Target::Owner => false,
+        Target::Definition => true,
+        Target::Structure => false,
+        Target::Import => true,
+        Target::Export => true,
+    }
 }
 
-// The refusal of an import of object b by area a, added or removed.
-fn import_refusal(s: State, adds: bool, a: u8, b: u8) -> u8
-    ensures { λ r. ⌜ r ≡ firstMet (resultChecks (changed (site s) Import adds 0 a b) Import adds a b) ⌝ }
+// The refusal by a late check where a pair of an object is added or removed. The relation that it is in is changed, in a
+// copy of that relation alone.
+fn object_refusal<'a>(
+    definitions: &'a [u32; 64],
+    structure: &'a [u32; 32],
+    imports: &'a [u32; 64],
+    exports: &'a [u32; 64],
+    target: Target,
+    adds: bool,
+    a: u8,
+    b: u8,
+) -> u8
+    requires { ⌜ T (ofObject target) × (length (now definitions) ≡ 64) × (length (now imports) ≡ 64) × (length (now exports)
+        ≡ 64) ⌝ }
+    ensures { λ r. ⌜ r ≡ firstMet (resultChecks (changed (siteFor (now (definitions .entry)) (now (structure .entry)) (now
+        (imports .entry)) (now (exports .entry))) target adds 0 a b) target adds a b) ⌝ }
 {
-    let mut imports = s.imports;
-    relations::put_in(&mut imports, b, a, adds);
-    object_refusal(
-        &s.definitions,
-        &s.structure,
-        &imports,
-        &s.exports,
-        adds,
-        a,
-        b,
-    )
-}
-
-// The refusal of an export of object b by area a, added or removed.
-fn export_refusal(s: State, adds: bool, a: u8, b: u8) -> u8
-    ensures { λ r. ⌜ r ≡ firstMet (resultChecks (changed (site s) Export adds 0 a b) Export adds a b) ⌝ }
-{
-    let mut exports = s.exports;
-    relations::put_in(&mut exports, b, a, adds);
-    object_refusal(
-        &s.definitions,
-        &s.structure,
-        &s.imports,
-        &exports,
-        adds,
-        a,
-        b,
-    )
+    match target {
+        Target::Definition => {
+            if adds {
+                return 0;
+            }
+            let mut left = *definitions;
+            relations::put_in(&mut left, b, a, false);
+            pair_refusal(&left, structure, imports, exports, false, a, b)
+        }
+        Target::Import => {
+            let mut changed = *imports;
+            relations::put_in(&mut changed, b, a, adds);
+            pair_refusal(definitions, structure, &changed, exports, adds, a, b)
+        }
+        Target::Export => {
+            let mut changed = *exports;
+            relations::put_in(&mut changed, b, a, adds);
+            pair_refusal(definitions, structure, imports, &changed, adds, a, b)
+        }
+        Target::TheArea => 0,
+        Target::Owner => 0,
+        Target::Structure => 0,
+    }
 }
 
 // The refusal of a removed structure pair: 11 if an import or export pair lacks access in the state t.
@@ -264,39 +270,25 @@ fn unlist_refusal(t: State, a: u8) -> u8
     0
 }
 
-// The refusal by a late check, 0 if none is met. Where a pair of an object is added or removed, the one relation that it
-// is in is changed; for the others the state is made that the instruction would give.
-fn late_refusal(s: State, x: Instruction, u: u8, a: u8, b: u8) -> u8
+// The refusal by a late check where an area, an owner or a structure pair is added or removed, of the state that the
+// instruction would give.
+fn area_refusal(s: State, x: Instruction, u: u8, a: u8, b: u8) -> u8
+    requires { ⌜ ofObject (rule x .target) ≡ false ⌝ }
     ensures { λ r. ⌜ r ≡ firstMet (resultChecks (successor (site s) x u a b) (rule x .target) (rule x .adds) a b) ⌝ }
 {
     let rule = instructions::rule_of(x);
+    if rule.adds {
+        return 0;
+    }
     let target = rule.target;
-    let adds = rule.adds;
+    let t = successors::successor(s, x, u, a, b);
     match target {
-        Target::TheArea => {
-            if adds {
-                0
-            } else {
-                unlist_refusal(successors::successor(s, x, u, a, b), a)
-            }
-        }
-        Target::Owner => {
-            if adds {
-                0
-            } else {
-                disown_refusal(successors::successor(s, x, u, a, b), a)
-            }
-        }
-        Target::Definition => { if adds { 0 } else { definition_refusal(s, a, b) } }
-        Target::Structure => {
-            if adds {
-                0
-            } else {
-                cut_refusal(successors::successor(s, x, u, a, b))
-            }
-        }
-        Target::Import => import_refusal(s, adds, a, b),
-        Target::Export => export_refusal(s, adds, a, b),
+        Target::TheArea => unlist_refusal(t, a),
+        Target::Owner => disown_refusal(t, a),
+        Target::Structure => cut_refusal(t),
+        Target::Definition => 0,
+        Target::Import => 0,
+        Target::Export => 0,
     }
 }
 
@@ -317,9 +309,23 @@ pub fn refusal_of(s: State, x: Instruction, u: u8, a: u8, b: u8) -> u8
         a,
         b,
     );
-    let early = early_refusal(seen, instructions::rule_of(x));
+    let rule = instructions::rule_of(x);
+    let early = early_refusal(seen, rule);
     if early != 0 {
         return early;
     }
-    late_refusal(s, x, u, a, b)
+    let target = rule.target;
+    if !is_of_object(target) {
+        return area_refusal(s, x, u, a, b);
+    }
+    object_refusal(
+        &s.definitions,
+        &s.structure,
+        &s.imports,
+        &s.exports,
+        target,
+        rule.adds,
+        a,
+        b,
+    )
 }

@@ -1,44 +1,102 @@
--- `refusals::object_refusal` meets its contract: of an add only 10 can be met of the late checks, and of a remove only 11.
+-- `refusals::object_refusal` meets its contract: in each arm the relation that is changed is that of the state which the instruction would give.
 -- Assumes nothing.
 use Prim.Native.Nat.{ℕ}
-use mathlib.Core.Path.{_≡_, sym, ap, _∙_}
-use mathlib.Core.Bool.{Bool, true, false, not, cond}
+use mathlib.Core.Path.{_≡_, refl, sym, ap, subst, _∙_}
+use mathlib.Core.Bool.{Bool, true, false}
 use mathlib.Core.List.{[], _∷_}
+use borrow.Author.Needs.{needs}
+use denote.Ref.{now}
+use lib.Dec.{T}
+use Rattle.bits.specs.Rows.{cellsOf}
 use Rattle.state.specs.Checks.{_when_, firstMet}
-use Rattle.state.specs.Site.{Site}
-use Rattle.access.specs.Lending.{lending}
-use Rattle.access.specs.Answer.{access}
-use Rattle.validity.specs.Parts.{validFor}
-use Rattle.instructions.specs.declared.Target.the-variants.{Import}
-use Rattle.refusals.specs.Parts.{resultChecks}
-use Rattle.refusals.proofs.Alone.{alone}
+use Rattle.state.specs.Site.{Site, siteOf}
+use Rattle.state.proofs.Checks.{passed, none-met}
+use Rattle.validity.specs.Parts.{siteFor, validFor}
+use Rattle.instructions.specs.declared.Target.{Target}
+use Rattle.instructions.specs.declared.Target.the-variants.{TheArea, Owner, Definition, Structure, Import, Export}
+use Rattle.successors.specs.Successor.{changed}
+use Rattle.refusals.specs.Parts.{ofObject, resultChecks}
 use Rattle.refusals.proofs.object_refusal.Statement.{statement}
 use Rattle.refusals.proofs.object_refusal.Tie as tie
 
-module _ (t : Site) (a b : ℕ) {adds : Bool} where
-  -- the number of an add, by whether the area has access
-  added : adds ≡ true → (v : Bool) → access (lending t b) a ≡ v → cond (not v) 10 0 ≡ firstMet (resultChecks t Import adds a b)
-  added kind v e =
-      sym (ap (λ (k : Bool). firstMet (resultChecks t Import k a b)) kind
-      ∙ alone ((8 when false) ∷ (9 when false) ∷ []) ((11 when false) ∷ []) _ tt tt ∙ ap (λ (w : Bool). cond (not w) 10 0) e)
+-- the number in the arm of target k, of an add or a remove
+in-arm : (s : Site) {n : ℕ} {target : Target} {adds : Bool} (k : Target) (v : Bool) (a b : ℕ)
+    → n ≡ firstMet (resultChecks (changed s k v 0 a b) k v a b) → target ≡ k → adds ≡ v → n ≡ firstMet (resultChecks (changed s target adds 0 a b) target adds a b)
+in-arm s k v a b e told kind = e ∙ (λ i. firstMet (resultChecks (changed s (sym told i) (sym kind i) 0 a b) (sym told i) (sym kind i) a b))
 
-  -- and of a remove, by whether the pairs of the object have
-  removed : adds ≡ false → (v : Bool) → validFor t b ≡ v → cond (not v) 11 0 ≡ firstMet (resultChecks t Import adds a b)
-  removed kind v e =
-      sym (ap (λ (k : Bool). firstMet (resultChecks t Import k a b)) kind
-      ∙ alone ((8 when false) ∷ (9 when false) ∷ (10 when false) ∷ []) [] _ tt tt ∙ ap (λ (w : Bool). cond (not w) 11 0) e)
+-- an arm of another target is not come to
+no-object : {P : Type 0} {target : Target} → T (ofObject target) → (k : Target) → target ≡ k → ofObject k ≡ false → P
+no-object t k told e = absurd (subst T (ap ofObject told ∙ e) t)
+
+-- an added definition
+none : 0 ≡ firstMet ((8 when false) ∷ (9 when false) ∷ (10 when false) ∷ (11 when false) ∷ [])
+none = sym (passed _ _ refl ∙ passed _ _ refl ∙ passed _ _ refl ∙ passed _ _ refl ∙ none-met)
+
+-- the relations as they are handed over
+abbrev given : tie.Start → Site
+given c = siteFor (now (c .args .definitions)) (now (c .args .structure)) (now (c .args .imports)) (now (c .args .exports))
 
 returns : tie.Need-returns
-returns c = added _ _ _ (c .before .before .if1 .taken) true (sym (c .before .has-access .ensures) ∙ c .if2 .taken)
+returns c =
+    let start = c .before .before .before in
+    in-arm (given start) Definition true (start .args .a) (start .args .b) none (c .before .enum-told .given .1) (c .if1 .taken)
+
+slice-aggregate-put-in : tie.Need-slice-aggregate-put-in
+slice-aggregate-put-in c = search needs
+
+slice-aggregate-put-in-2 : tie.Need-slice-aggregate-put-in-2
+slice-aggregate-put-in-2 c = search needs
+
+slice-aggregate-put-in-3 : tie.Need-slice-aggregate-put-in-3
+slice-aggregate-put-in-3 c = search needs
 
 returns-2 : tie.Need-returns-2
-returns-2 c = added _ _ _ (c .before .before .if1 .taken) false (sym (c .before .has-access .ensures) ∙ c .if2 .left)
+unfolding validFor
+returns-2 c =
+    let put = c .before .before .before in
+    let arm = put .before .before .before in
+    let start = arm .before .before .before in
+    let y = start .args in
+    in-arm (given start) Definition false (y .a) (y .b)
+    (c .pair-refusal .ensures
+    ∙ (λ i. firstMet (resultChecks (siteOf [] [] [] [] (put .put-in .ensures i) (cellsOf (now (y .structure))) (cellsOf (now (y .imports))) (cellsOf (now (y .exports)))) Import false (y .a) (y .b))))
+    (arm .before .enum-told .given .1) (arm .if1 .left)
 
 returns-3 : tie.Need-returns-3
-returns-3 c = removed _ _ _ (c .before .before .if1 .left) true (sym (c .before .is-valid-for .ensures) ∙ c .if3 .taken)
+unfolding validFor
+returns-3 c =
+    let put = c .before .before .before in
+    let arm = put .before .before .before in
+    let start = arm .before .before in
+    let y = start .args in
+    in-arm (given start) Import (y .adds) (y .a) (y .b)
+    (c .pair-refusal2 .ensures
+    ∙ (λ i. firstMet (resultChecks (siteOf [] [] [] [] (cellsOf (now (y .definitions))) (cellsOf (now (y .structure))) (put .put-in2 .ensures i) (cellsOf (now (y .exports)))) Import (y .adds) (y .a) (y .b))))
+    (arm .enum-told2 .given .1) refl
 
 returns-4 : tie.Need-returns-4
-returns-4 c = removed _ _ _ (c .before .before .if1 .left) false (sym (c .before .is-valid-for .ensures) ∙ c .if3 .left)
+unfolding validFor
+returns-4 c =
+    let put = c .before .before .before in
+    let arm = put .before .before .before in
+    let start = arm .before .before in
+    let y = start .args in
+    in-arm (given start) Export (y .adds) (y .a) (y .b)
+    (c .pair-refusal3 .ensures
+    ∙ (λ i. firstMet (resultChecks (siteOf [] [] [] [] (cellsOf (now (y .definitions))) (cellsOf (now (y .structure))) (cellsOf (now (y .imports))) (put .put-in3 .ensures i)) Import (y .adds) (y .a) (y .b))))
+    (arm .enum-told3 .given .1) refl
+
+returns-5 : tie.Need-returns-5
+returns-5 c = no-object (c .before .before .pre .0) TheArea (c .enum-told4 .given .1) refl
+
+returns-6 : tie.Need-returns-6
+returns-6 c = no-object (c .before .before .pre .0) Owner (c .enum-told5 .given .1) refl
+
+returns-7 : tie.Need-returns-7
+returns-7 c = no-object (c .before .before .pre .0) Structure (c .enum-told6 .given .1) refl
 
 pub object-refusal-spec : {M : Type 1} → statement M
-object-refusal-spec = tie.close (tie.spec (λ c κs. tt) (λ c κs. tt) returns returns-2 returns-3 returns-4)
+object-refusal-spec =
+    tie.close
+    (tie.spec (λ c. search needs) returns slice-aggregate-put-in (λ c κs. tt) (λ c κs. tt) (λ c. search needs) slice-aggregate-put-in-2 (λ c κs. tt) (λ c κs. tt)
+    (λ c. search needs) slice-aggregate-put-in-3 (λ c κs. tt) (λ c κs. tt) (λ c. search needs) (λ c. search needs) (λ c. search needs) returns-2 returns-3 returns-4 returns-5 returns-6 returns-7)

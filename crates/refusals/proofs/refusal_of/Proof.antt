@@ -1,23 +1,30 @@
--- `refusals::refusal_of` meets its contract: the early checks are asked first.
+-- `refusals::refusal_of` meets its contract: the early checks are asked first, and then the late ones, where a pair of an object is added or
+-- removed of the relations that access rests on.
 -- Assumes nothing.
 use Prim.Native.Nat.{ℕ}
-use mathlib.Core.Path.{_≡_, sym, ap, _∙_}
-use mathlib.Core.Bool.{Bool, cond}
+use mathlib.Core.Path.{_≡_, refl, sym, ap, _∙_}
+use mathlib.Core.Bool.{Bool, true, false, cond}
 use mathlib.Core.List.{List, _++_}
-use lib.Dec.{eqb}
-use borrow.Author.Tests.{eq-eqb, ne-eqb}
+use lib.Dec.{T, eqb}
+use borrow.Author.Tests.{not-true, not-false, eq-eqb, ne-eqb}
 use Rattle.state.specs.Checks.{Check, firstMet}
 use Rattle.state.specs.Site.{Site}
-use Rattle.state.specs.Stands.{site}
+use Rattle.state.specs.Stands.{site, Fits}
+use Rattle.state.specs.declared.State.{State}
+use Rattle.state.proofs.Bools.{holds}
 use Rattle.state.proofs.Checks.{first-of-two}
+use Rattle.state.proofs.Typed.{fits-by-type}
 use Rattle.readings.specs.Readings.{seenOf}
 use Rattle.readings.specs.declared.Seen.{Seen}
+use Rattle.validity.specs.Parts.{siteFor, validFor}
 use Rattle.instructions.specs.Instructions.{rule}
 use Rattle.instructions.specs.declared.Instruction.{Instruction}
 use Rattle.instructions.specs.declared.Rule.{Rule}
-use Rattle.successors.specs.Successor.{successor}
+use Rattle.instructions.specs.declared.Target.{Target}
+use Rattle.instructions.specs.declared.Target.the-variants.{TheArea, Owner, Definition, Structure, Import, Export}
+use Rattle.successors.specs.Successor.{changed, successor}
 use Rattle.refusals.specs.Refusals.{earlyChecks}
-use Rattle.refusals.specs.Parts.{resultChecks, foundChecks}
+use Rattle.refusals.specs.Parts.{ofObject, resultChecks, foundChecks}
 use Rattle.refusals.proofs.refusal_of.Statement.{statement}
 use Rattle.refusals.proofs.refusal_of.Tie as tie
 
@@ -40,26 +47,80 @@ module _ (s : Site) (x : Instruction) (u a b : ℕ) {v : Seen} {r : Rule} {m : �
   is-late : m ≡ 0 → {n : ℕ} → n ≡ firstMet late → n ≡ firstMet (foundChecks s x u a b)
   is-late z f = f ∙ sym (two _ (eq-eqb m 0 z))
 
+-- the checks of an object's pair read the relations that access rests on, and nothing else
+by-relations : (s : State) (k : Target) → T (ofObject k) → (w : Bool) (u a b : ℕ)
+    → resultChecks (changed (siteFor (s .definitions) (s .structure) (s .imports) (s .exports)) k w 0 a b) k w a b ≡ resultChecks (changed (site s) k w u a b) k w a b
+unfolding site validFor
+by-relations s TheArea t w u a b = absurd t
+by-relations s Owner t w u a b = absurd t
+by-relations s Definition t w u a b = refl
+by-relations s Structure t w u a b = absurd t
+by-relations s Import t w u a b = refl
+by-relations s Export t w u a b = refl
+
+of-object : (s : State) (x : Instruction) (u a b : ℕ) {r : Rule} {n : ℕ} → r ≡ rule x → T (ofObject (r .target))
+    → n ≡ firstMet (resultChecks (changed (siteFor (s .definitions) (s .structure) (s .imports) (s .exports)) (r .target) (r .adds) 0 a b) (r .target) (r .adds) a b)
+    → n ≡ firstMet (resultChecks (successor (site s) x u a b) (rule x .target) (rule x .adds) a b)
+of-object s x u a b {r} row t e =
+    e ∙ ap firstMet (by-relations s (r .target) t (r .adds) u a b)
+    ∙ ap (λ (q : Rule). firstMet (resultChecks (changed (site s) (q .target) (q .adds) u a b) (q .target) (q .adds) a b)) row
+
+-- ---- on the way
 -- the start, before the arrays are lent
 abbrev begun : tie.After-look → tie.Start
 begun c = let lent = c .before .before .before .before .before in lent .before .before .before .before .before
+
+abbrev looked : tie.After-early-refusal → tie.After-look
+looked c = c .before .before
 
 returns : tie.Need-returns
 unfolding site
 returns c =
     let early = c .before in
-    let row = early .before in
-    let y = begun (row .before) .args in
-    is-early (site (y .t1)) (y .x) (y .u) (y .a) (y .b) (row .before .look .ensures) (row .rule-of .ensures) (early .early-refusal .ensures) (c .if1 .taken)
+    let y = begun (looked early) .args in
+    is-early (site (y .t1)) (y .x) (y .u) (y .a) (y .b) (looked early .look .ensures) (early .before .rule-of .ensures) (early .early-refusal .ensures) (c .if1 .taken)
+
+area-refusal-requires : tie.Need-area-refusal-requires
+area-refusal-requires c κs =
+    let asked = c .before in
+    let row = asked .before .before .before .rule-of in
+    ap (λ (q : Rule). ofObject (q .target)) (sym (row .ensures)) ∙ sym (asked .is-of-object .ensures) ∙ not-true _ (c .if2 .taken)
 
 returns-2 : tie.Need-returns-2
 unfolding site
 returns-2 c =
-    let asked = c .before in
-    let early = asked .before in
-    let row = early .before in
-    let y = begun (row .before) .args in
-    is-late (site (y .t1)) (y .x) (y .u) (y .a) (y .b) (row .before .look .ensures) (row .rule-of .ensures) (early .early-refusal .ensures) (asked .if1 .left) (c .late-refusal .ensures)
+    let passed = c .before .before .before in
+    let early = passed .before in
+    let y = begun (looked early) .args in
+    is-late (site (y .t1)) (y .x) (y .u) (y .a) (y .b) (looked early .look .ensures) (early .before .rule-of .ensures) (early .early-refusal .ensures) (passed .if1 .left)
+    (c .area-refusal .ensures)
+
+-- a pair of an object
+abbrev asked-at : tie.After-object-refusal-arg4 → tie.Else2
+asked-at c = c .before .before .before .before .before
+
+is-object : (c : tie.Else2) → let row = c .before .before .before .before .rule-of in T (ofObject (row .result .target))
+is-object c = holds (sym (c .before .is-of-object .ensures) ∙ not-false _ (c .if2 .left))
+
+object-refusal-requires : tie.Need-object-refusal-requires
+object-refusal-requires c κs =
+    let asked = asked-at c in
+    let start = begun (looked (asked .before .before .before)) in
+    let fits : Fits (start .args .t1) = fits-by-type (start .args .t1) _ (start .good .0 .1 .1) in
+    (is-object asked, fits .definitions .long, fits .imports .long, fits .exports .long)
+
+returns-3 : tie.Need-returns-3
+unfolding site
+returns-3 c =
+    let asked = asked-at (c .before) in
+    let passed = asked .before .before in
+    let early = passed .before in
+    let row = early .before .rule-of in
+    let y = begun (looked early) .args in
+    is-late (site (y .t1)) (y .x) (y .u) (y .a) (y .b) (looked early .look .ensures) (row .ensures) (early .early-refusal .ensures) (passed .if1 .left)
+    (of-object (y .t1) (y .x) (y .u) (y .a) (y .b) (row .ensures) (is-object asked) (c .object-refusal .ensures))
 
 pub refusal-of-spec : {M : Type 1} → statement M
-refusal-of-spec = tie.close (tie.spec (λ c κs. tt) (λ c κs. tt) (λ c κs. tt) returns (λ c κs. tt) returns-2)
+refusal-of-spec =
+    tie.close
+    (tie.spec (λ c κs. tt) (λ c κs. tt) (λ c κs. tt) returns (λ c κs. tt) area-refusal-requires returns-2 object-refusal-requires returns-3)
