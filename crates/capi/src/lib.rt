@@ -1,5 +1,5 @@
 // The C interface, which include/panelrights.h declares: numbers and byte slices. Each function takes a record apart
-// and calls one function of a crate below; no rule stands here.
+// and calls one function of a crate below that decides; no rule stands here.
 ghost use mathlib.Core.Path.{_≡_};
 ghost use Rattle.records.specs.Record.{recordSize, numberFor};
 ghost use Rattle.instructions.specs.Instructions.{fourBytes};
@@ -30,7 +30,8 @@ pub extern "C" fn panelrights_founding(state: &mut [u8]) -> u8
 }
 
 // Obeys one instruction: 0 and the state after it in place, or the refusal and no byte changed. Bytes that are no
-// record are the state of nothing, which is not sound: 12. Where it is accepted, what it changes is written, and no more.
+// record are the state of nothing, which is not sound: 12. Where it is accepted, what it changes is written, and no
+// more.
 #[no_mangle]
 pub extern "C" fn panelrights_step(state: &mut [u8], code: u8, activator: u8, a: u8, b: u8) -> u8
     ensures number { λ r. ⌜ r ≡ stepNumber (now (state .entry)) (fourBytes code activator a b) ⌝ }

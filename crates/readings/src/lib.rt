@@ -32,8 +32,8 @@ pub struct Seen {
     pub exported: bool,
 }
 
-// What those checks read: all of it at once, whatever the instruction. The record is lent as its arrays, so that none is
-// copied.
+// What those checks read: all of it at once, whatever the instruction. The record is lent as its arrays, so that none
+// is copied.
 pub fn look<'a>(
     users: &'a [u32; 1],
     areas: &'a [u32; 1],

@@ -115,8 +115,8 @@ fn set_target(bytes: &mut [u8], target: Target, present: bool, u: u8, a: u8, b: 
     }
 }
 
-// Makes a record that of the state which the instruction would give: the places that it adds or removes are written, and
-// nothing else. Four bytes that fit no instruction change nothing, and a buffer of another length stays as it is.
+// Makes a record that of the state which the instruction would give: the places that it adds or removes are written,
+// and nothing else. Four bytes that fit no instruction change nothing, and a buffer of another length stays as it is.
 pub fn change(bytes: &mut [u8], code: u8, activator: u8, a: u8, b: u8)
     ensures { λ _. ⌜ now (bytes .exit) ≡ changedRecord (now (bytes .entry)) (fourBytes code activator a b) ⌝ }
 {

@@ -1,10 +1,10 @@
--- A table in which one condition alone can be met: its number, or 0.
+-- A table in which one condition alone can be met: its number, or 0. And that of the late checks in which none can.
 -- Assumes nothing.
-use mathlib.Core.Path.{_≡_, refl, _∙_}
+use mathlib.Core.Path.{_≡_, refl, sym, _∙_}
 use mathlib.Core.Bool.{Bool, true, false, _&&_, not, cond}
 use mathlib.Core.List.{List, [], _∷_, _++_}
 use lib.Dec.{T}
-use Rattle.state.specs.Checks.{Check, firstMet}
+use Rattle.state.specs.Checks.{Check, _when_, firstMet}
 use Rattle.state.proofs.Bools.{and-left, and-right, is-false, not-so}
 use Rattle.state.proofs.Checks.{met, passed, none-met}
 
@@ -28,3 +28,6 @@ alone [] m c n k = go (c .met) refl
     go true e = rw (met c m e, e) refl
     go false e = rw (passed c m e, e) (nothing m k)
 alone (d ∷ l) m c n k = past d l (l ++ (c ∷ m)) n ∙ alone l m c (and-right (not (d .met)) (unmet l) n) k
+
+pub none : 0 ≡ firstMet ((8 when false) ∷ (9 when false) ∷ (10 when false) ∷ (11 when false) ∷ [])
+none = sym (nothing _ tt)

@@ -14,7 +14,7 @@ use Rattle.successors.specs.Successor.{changed}
 use Rattle.refusals.specs.Refusals.{lateChecks, refusals, stepNumbers}
 use Rattle.refusals.specs.Parts.{resultChecks}
 
--- In a sound state the checks 8 to 11 may be made of the state that the instruction would give: `late_refusal` does so.
+-- In a sound state the checks 8 to 11 may be made of the state that the instruction would give: `refusal_of` does so.
 abbrev pub LateByResult : Type 0
 LateByResult =
     (s : Site) → Sound s → (r : Rule) (u a b : ℕ)

@@ -201,8 +201,8 @@ fn is_of_object(target: Target) -> bool
     }
 }
 
-// The refusal by a late check where a pair of an object is added or removed. The relation that it is in is changed, in a
-// copy of that relation alone.
+// The refusal by a late check where a pair of an object is added or removed. The relation that it is in is changed, in
+// a copy of that relation alone.
 fn object_refusal<'a>(
     definitions: &'a [u32; 64],
     structure: &'a [u32; 32],
@@ -270,16 +270,13 @@ fn unlist_refusal(t: State, a: u8) -> u8
     0
 }
 
-// The refusal by a late check where an area, an owner or a structure pair is added or removed, of the state that the
-// instruction would give.
+// The refusal by a late check where an area, an owner or a structure pair is removed, of the state that the instruction
+// would give.
 fn area_refusal(s: State, x: Instruction, u: u8, a: u8, b: u8) -> u8
-    requires { ⌜ ofObject (rule x .target) ≡ false ⌝ }
+    requires { ⌜ (ofObject (rule x .target) ≡ false) × (rule x .adds ≡ false) ⌝ }
     ensures { λ r. ⌜ r ≡ firstMet (resultChecks (successor (site s) x u a b) (rule x .target) (rule x .adds) a b) ⌝ }
 {
     let rule = instructions::rule_of(x);
-    if rule.adds {
-        return 0;
-    }
     let target = rule.target;
     let t = successors::successor(s, x, u, a, b);
     match target {
@@ -315,17 +312,21 @@ pub fn refusal_of(s: State, x: Instruction, u: u8, a: u8, b: u8) -> u8
         return early;
     }
     let target = rule.target;
-    if !is_of_object(target) {
-        return area_refusal(s, x, u, a, b);
+    if is_of_object(target) {
+        return object_refusal(
+            &s.definitions,
+            &s.structure,
+            &s.imports,
+            &s.exports,
+            target,
+            rule.adds,
+            a,
+            b,
+        );
     }
-    object_refusal(
-        &s.definitions,
-        &s.structure,
-        &s.imports,
-        &s.exports,
-        target,
-        rule.adds,
-        a,
-        b,
-    )
+    // No late check is of a new area, owner or structure pair.
+    if rule.adds {
+        return 0;
+    }
+    area_refusal(s, x, u, a, b)
 }

@@ -3,19 +3,19 @@
 use Prim.Native.Nat.{ℕ}
 use mathlib.Core.Path.{_≡_, refl, sym, ap, subst, _∙_}
 use mathlib.Core.Bool.{Bool, true, false}
-use mathlib.Core.List.{[], _∷_}
+use mathlib.Core.List.{[]}
 use borrow.Author.Needs.{needs}
 use denote.Ref.{now}
 use lib.Dec.{T}
 use Rattle.bits.specs.Rows.{cellsOf}
-use Rattle.state.specs.Checks.{_when_, firstMet}
+use Rattle.state.specs.Checks.{firstMet}
 use Rattle.state.specs.Site.{Site, siteOf}
-use Rattle.state.proofs.Checks.{passed, none-met}
 use Rattle.validity.specs.Parts.{siteFor, validFor}
 use Rattle.instructions.specs.declared.Target.{Target}
 use Rattle.instructions.specs.declared.Target.the-variants.{TheArea, Owner, Definition, Structure, Import, Export}
 use Rattle.successors.specs.Successor.{changed}
 use Rattle.refusals.specs.Parts.{ofObject, resultChecks}
+use Rattle.refusals.proofs.Alone.{none}
 use Rattle.refusals.proofs.object_refusal.Statement.{statement}
 use Rattle.refusals.proofs.object_refusal.Tie as tie
 
@@ -27,10 +27,6 @@ in-arm s k v a b e told kind = e ∙ (λ i. firstMet (resultChecks (changed s (s
 -- an arm of another target is not come to
 no-object : {P : Type 0} {target : Target} → T (ofObject target) → (k : Target) → target ≡ k → ofObject k ≡ false → P
 no-object t k told e = absurd (subst T (ap ofObject told ∙ e) t)
-
--- an added definition
-none : 0 ≡ firstMet ((8 when false) ∷ (9 when false) ∷ (10 when false) ∷ (11 when false) ∷ [])
-none = sym (passed _ _ refl ∙ passed _ _ refl ∙ passed _ _ refl ∙ passed _ _ refl ∙ none-met)
 
 -- the relations as they are handed over
 abbrev given : tie.Start → Site
