@@ -33,7 +33,7 @@ objectAt definitions imports exports from objects areas k =
     objectFits (getD definitions (from + k) 0) (getD imports (from + k) 0) (getD exports (from + k) 0) (bit objects k)
     areas
 
--- all of that for every user, area and object; and each area has an owner, and there is an area
+-- all of that for every user, area and object; each listed area has an owner; and an area is listed
 unfoldable pub wellFormed : (users areas objects owners definitions structure imports exports : Rows) → Bool
 wellFormed users areas objects owners definitions structure imports exports =
     eachBelow 32 (userAt owners (getD users 0 0) (getD areas 0 0))

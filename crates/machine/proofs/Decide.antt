@@ -19,7 +19,7 @@ use Rattle.soundness.proofs.Laws.{sound-decided}
 use Rattle.instructions.specs.Instructions.{Bytes}
 use Rattle.instructions.specs.Decode.{decodeOf, decodedNumber, misfits}
 use Rattle.successors.specs.Successor.{successorOf}
-use Rattle.state.specs.Checks.{Check, firstMet}
+use Rattle.state.specs.Checks.{firstMet}
 use Rattle.refusals.specs.Refusals.{instructionChecks, checksOf}
 use Rattle.refusals.specs.Parts.{foundChecks}
 use Rattle.machine.specs.Step.{decided, stepRefusal, stepOf}

@@ -15,11 +15,11 @@ use Rattle.refusals.specs.Refusals.{refusals}
 use Rattle.machine.specs.Step.{stepRefusal, stepOf, run, questionRefusals, refusedOr, replyOf}
 use Rattle.machine.specs.declared.Reply.the-variants.{Refused}
 
--- the number is the refusal
+-- the number of a step is `stepRefusal`, which `machine::refusal` promises
 abbrev pub NumberIsRefusal : Type 0
 NumberIsRefusal = (s : Site) (bytes : Bytes) → stepOf s bytes .refusal ≡ stepRefusal s bytes
 
--- it is that of the first refusal that is met, 0 if none is
+-- and that is the first refusal that is met, 0 if none is
 abbrev pub NumberByFirst : Type 0
 NumberByFirst = (s : Site) (bytes : Bytes) → stepOf s bytes .refusal ≡ firstMet (refusals s bytes)
 

@@ -31,7 +31,7 @@ const IMPORTS: usize = 528;
 
 const EXPORTS: usize = 784;
 
-// Writes a bit of a byte.
+// Writes whether bit `place` of byte `at` is set.
 fn write(bytes: &mut [u8], at: usize, place: u8, present: bool)
     requires { ⌜ (at < length (now bytes)) × (place < 8) ⌝ }
     ensures { λ _. ⌜ now (bytes .exit) ≡ written (now (bytes .entry)) at place present ⌝ }

@@ -60,7 +60,7 @@ resultChecks t target v a b =
     ∷ (11 when not v && cutsAccess t target b)
     ∷ []
 
--- a pair of an object
+-- the target is a pair of an object
 abbrev pub ofObject : Target → Bool
 ofObject TheArea = false
 ofObject Owner = false
@@ -69,7 +69,7 @@ ofObject Structure = false
 ofObject Import = true
 ofObject Export = true
 
--- the checks of an instruction as `refusal_of` makes them: the early ones, and then these
+-- the checks of an instruction as `refusal_of` makes them: the early ones, then 8 to 11 of the state that it would give
 abbrev pub foundChecks : Site → Instruction → (u a b : ℕ) → List Check
 foundChecks s x u a b =
     earlyChecks (seenOf s u a b) (rule x) ++ resultChecks (successor s x u a b) (rule x .target) (rule x .adds) a b

@@ -1,7 +1,7 @@
 // When an instruction that the bytes fit is refused, and with which number: the early checks, of what was read of the
-// state given, and the late ones, of the state that the instruction would give. Nothing is changed here.
+// state given, and the late ones, of the state that the instruction would give. The state given is not changed.
 ghost use mathlib.Core.Path.{_≡_};
-ghost use mathlib.Core.Bool.{true, false};
+ghost use mathlib.Core.Bool.{false};
 ghost use Prim.Native.Nat.{_≤_};
 ghost use lib.Dec.{T};
 ghost use lib.ListN.{length};
@@ -12,7 +12,7 @@ ghost use Rattle.access.specs.Lending.{lendingOf};
 ghost use Rattle.access.specs.Answer.{access};
 ghost use Rattle.validity.specs.Parts.{siteFor};
 ghost use Rattle.instructions.specs.Instructions.{rule};
-ghost use Rattle.instructions.specs.declared.Target.the-variants.{TheArea, Owner, Definition, Structure, Import, Export};
+ghost use Rattle.instructions.specs.declared.Target.the-variants.{TheArea, Owner, Structure, Import};
 ghost use Rattle.successors.specs.Successor.{changed, successor};
 ghost use Rattle.refusals.specs.Refusals.{bListed, missing, entitled, present, absent, ownImport, earlyChecks};
 ghost use Rattle.refusals.specs.Parts.{rowsOf, ofObject, resultChecks, foundChecks};
@@ -148,8 +148,8 @@ fn has_access<'a>(
     a: u8,
     b: u8,
 ) -> bool
-    ensures { λ r. ⌜ r ≡ access (lendingOf (cellsOf (now (definitions .entry))) (cellsOf (now (structure .entry))) (cellsOf
-        (now (imports .entry))) (cellsOf (now (exports .entry))) b) a ⌝ }
+    ensures { λ r. ⌜ r ≡ access (lendingOf (cellsOf (now (definitions .entry))) (cellsOf (now (structure .entry)))
+        (cellsOf (now (imports .entry))) (cellsOf (now (exports .entry))) b) a ⌝ }
 {
     match search::steps(definitions, structure, imports, exports, a, b) {
         Answer::Steps(_) => true,
@@ -159,7 +159,8 @@ fn has_access<'a>(
 
 // The refusal of what is done to a pair of area a and object b, by the relations that there would be: of an import or
 // export that is added, 10 if the area lacks access; of a definition, import or export that is removed, 11 if an import
-// or export pair of the object does. Other objects have the access that they had.
+// or export pair of the object does. Other objects have the access that they had. The contract says Import for all
+// three: an added definition has no late check, and the rest is the same for each.
 fn pair_refusal<'a>(
     definitions: &'a [u32; 64],
     structure: &'a [u32; 32],
@@ -202,7 +203,7 @@ fn is_of_object(target: Target) -> bool
 }
 
 // The refusal by a late check where a pair of an object is added or removed. The relation that it is in is changed, in
-// a copy of that relation alone.
+// a copy of that relation alone. The activator changes no pair of an object: any number will do, here 0.
 fn object_refusal<'a>(
     definitions: &'a [u32; 64],
     structure: &'a [u32; 32],
@@ -213,30 +214,31 @@ fn object_refusal<'a>(
     a: u8,
     b: u8,
 ) -> u8
-    requires { ⌜ T (ofObject target) × (length (now definitions) ≡ 64) × (length (now imports) ≡ 64) × (length (now exports)
-        ≡ 64) ⌝ }
-    ensures { λ r. ⌜ r ≡ firstMet (resultChecks (changed (siteFor (now (definitions .entry)) (now (structure .entry)) (now
-        (imports .entry)) (now (exports .entry))) target adds 0 a b) target adds a b) ⌝ }
+    requires { ⌜ T (ofObject target) × (length (now definitions) ≡ 64) × (length (now imports) ≡ 64) × (length (now
+        exports) ≡ 64) ⌝ }
+    ensures { λ r. ⌜ r ≡ firstMet (resultChecks (changed (siteFor (now (definitions .entry)) (now (structure .entry))
+        (now (imports .entry)) (now (exports .entry))) target adds 0 a b) target adds a b) ⌝ }
 {
     match target {
         Target::Definition => {
             if adds {
                 return 0;
             }
-            let mut left = *definitions;
-            relations::put_in(&mut left, b, a, false);
-            pair_refusal(&left, structure, imports, exports, false, a, b)
+            let mut defined = *definitions;
+            relations::put_in(&mut defined, b, a, false);
+            pair_refusal(&defined, structure, imports, exports, false, a, b)
         }
         Target::Import => {
-            let mut changed = *imports;
-            relations::put_in(&mut changed, b, a, adds);
-            pair_refusal(definitions, structure, &changed, exports, adds, a, b)
+            let mut imported = *imports;
+            relations::put_in(&mut imported, b, a, adds);
+            pair_refusal(definitions, structure, &imported, exports, adds, a, b)
         }
         Target::Export => {
-            let mut changed = *exports;
-            relations::put_in(&mut changed, b, a, adds);
-            pair_refusal(definitions, structure, imports, &changed, adds, a, b)
+            let mut exported = *exports;
+            relations::put_in(&mut exported, b, a, adds);
+            pair_refusal(definitions, structure, imports, &exported, adds, a, b)
         }
+        // These are no pairs of an object, and are not asked about here.
         Target::TheArea => 0,
         Target::Owner => 0,
         Target::Structure => 0,
@@ -283,6 +285,7 @@ fn area_refusal(s: State, x: Instruction, u: u8, a: u8, b: u8) -> u8
         Target::TheArea => unlist_refusal(t, a),
         Target::Owner => disown_refusal(t, a),
         Target::Structure => cut_refusal(t),
+        // These are pairs of an object: `object_refusal` is asked.
         Target::Definition => 0,
         Target::Import => 0,
         Target::Export => 0,

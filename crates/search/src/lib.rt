@@ -141,8 +141,8 @@ pub fn steps<'a>(
     area: u8,
     object: u8,
 ) -> Answer
-    ensures equation { λ r. ⌜ r ≡ answer (lendingOf (cellsOf (now (definitions .entry))) (cellsOf (now (structure .entry)))
-        (cellsOf (now (imports .entry))) (cellsOf (now (exports .entry))) object) area ⌝ }
+    ensures equation { λ r. ⌜ r ≡ answer (lendingOf (cellsOf (now (definitions .entry))) (cellsOf (now
+        (structure .entry))) (cellsOf (now (imports .entry))) (cellsOf (now (exports .entry))) object) area ⌝ }
     ensures meaning { λ r. ⌜ Right (lendingOf (cellsOf (now (definitions .entry))) (cellsOf (now (structure .entry)))
         (cellsOf (now (imports .entry))) (cellsOf (now (exports .entry))) object) area r ⌝ }
     ensures number { λ r. ⌜ answerNumber r ≡ leastCount (lendingOf (cellsOf (now (definitions .entry))) (cellsOf (now

@@ -10,8 +10,7 @@
 --     some-at, some-by                    some number meets the test
 --     some-stop, some-done                a number that does, and none left
 --     first-is, first-none, first-met     the number that meets it while none before does, none at all, and that it does meet it
---     first-under, first-at-most          none before it meets it, and it is none behind one that does
---     first-within                        it is below n, or n
+--     first-under, first-within           none before it meets it, and it is below n, or n
 -- Assumes nothing.
 use Prim.Native.Nat.{ℕ, zero, suc, _+_, _≤_, _<_}
 use mathlib.Core.Path.{_≡_, refl, sym, ap, ap₂, subst, _∙_}
@@ -234,17 +233,6 @@ module _ (f : ℕ → Bool) where
       go later (inr e) (yes s) h = rw s at e
       go later (inr e) (no s) h = let l : m < firstFrom f n (k + 1) = rw e at h in later (omega arith) l
 
-  from-at-most : (n k m : ℕ) → k ≤ m → m < k + n → f m ≡ true → firstFrom f n k ≤ m
-  unfolding firstFrom
-  from-at-most zero k m a b t = absurd (omega arith)
-  from-at-most (suc n) k m a b t = go (from-at-most n (k + 1) m) (test (f k)) (ℕ-discrete k m)
-    where
-      go : (k + 1 ≤ m → m < k + 1 + n → f m ≡ true → firstFrom f n (k + 1) ≤ m) → T (f k) ⊎ (f k ≡ false) → Dec (k ≡ m)
-          → cond (f k) k (firstFrom f n (k + 1)) ≤ m
-      go later (inl s) same = rw (is-true (f k) s) a
-      go later (inr e) (yes s) = absurd (fails e (subst (λ (i : ℕ). T (f i)) (sym s) (holds t)))
-      go later (inr e) (no s) = rw e (later (omega arith) (omega arith) t)
-
   from-within : (n k : ℕ) → firstFrom f n k ≤ k + n
   unfolding firstFrom
   from-within zero k = omega arith
@@ -266,9 +254,6 @@ module _ (f : ℕ → Bool) where
 
   pub first-under : (n m : ℕ) → m < firstBelow n f → f m ≡ false
   first-under n m h = from-under n 0 m (omega arith) h
-
-  pub first-at-most : (n m : ℕ) → m < n → f m ≡ true → firstBelow n f ≤ m
-  first-at-most n m h t = from-at-most n 0 m (omega arith) (omega arith) t
 
   pub first-within : (n : ℕ) → firstBelow n f ≤ n
   first-within n = let h : firstBelow n f ≤ 0 + n = from-within n 0 in omega arith

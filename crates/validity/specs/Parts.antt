@@ -17,7 +17,7 @@ use Rattle.search.specs.Rounds.{moveBy, reachable}
 unfoldable pub validFor : Site → ℕ → Bool
 validFor s o = eachBelow (limit area) (λ a. not (imports s o a || exports s o a) || access (lending s o) a)
 
--- a state with the relations of these rows; `validFor` reads nothing else of it
+-- a state with the relations of these rows and nothing else: access and `validFor` read no more of it
 abbrev pub siteFor : (definitions structure imports exports : Rows) → Site
 siteFor definitions structure imports exports =
     siteOf [] [] [] [] (cellsOf definitions) (cellsOf structure) (cellsOf imports) (cellsOf exports)

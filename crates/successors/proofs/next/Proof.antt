@@ -9,7 +9,6 @@ use denote.Enum.Declared.{tagOf}
 use types.Run.{OneOf}
 use Rattle.state.specs.Site.{Site}
 use Rattle.instructions.specs.Instructions.{Bytes}
-use Rattle.instructions.specs.Decode.{decodeOf}
 use Rattle.instructions.specs.declared.Decoded.{Decoded}
 use Rattle.instructions.specs.declared.Decoded.the-variants.{Fits, NoCode, OutOfRange}
 use Rattle.instructions.proofs.Decoded.{the-type}
