@@ -54,7 +54,7 @@ meaning s h b e = subst (λ (v : Bool). T v ↔ Sound s) (sym e) (sound-decided 
 
 -- ---- where each call was made
 abbrev at-formed : tie.After-are-well-formed → tie.Start
-at-formed c = c .before .before .before .before .before .before .before .before .before .before
+at-formed c = let lent = c .before .before .before .before .before in lent .before .before .before .before .before
 
 abbrev at-disjoint : tie.After-are-disjoint → tie.Else1
 at-disjoint c = c .before .before .before .before

@@ -9,7 +9,8 @@ use Rattle.inspection.proofs.is_well_formed.Tie as tie
 
 returns : tie.Need-returns
 returns c =
-    let start = c .before .before .before .before .before .before .before .before .before .before in
+    let lent = c .before .before .before .before .before in
+    let start = lent .before .before .before .before .before in
     let s = start .args .t1 in
     let fits : Fits s = fits-by-type s _ (start .good .0 .1 .1) in
     c .are-well-formed .ensures ∙ well-formed-by-rows s fits

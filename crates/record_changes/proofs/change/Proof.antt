@@ -1,16 +1,12 @@
 -- `record_changes::change` meets its contract.
 -- Assumes nothing.
 use Prim.Native.Nat.{ℕ, _<_}
-use mathlib.Core.Path.{_≡_, refl, sym, ap, subst, _∙_}
-use mathlib.Core.Logic.{inl, inr}
+use mathlib.Core.Path.{_≡_, sym, ap, subst, _∙_}
 use mathlib.Core.Bool.{_&&_}
-use mathlib.Core.List.{List, [], _∷_}
-use native.Mathlib.Omega.{arith}
+use mathlib.Core.List.{List}
 use borrow.Author.Needs.{needs}
 use borrow.Author.Tests.{ne-eqb}
-use denote.Enum.Declared.{tagOf}
 use denote.Ref.{now}
-use types.Run.{OneOf}
 use lib.Dec.{T, ltb, ltb→lt}
 use Rattle.state.specs.Site.{Site}
 use Rattle.state.proofs.Bools.{and-left, and-right}
@@ -22,21 +18,14 @@ use Rattle.instructions.specs.declared.Instruction.{Instruction}
 use Rattle.instructions.specs.declared.Target.{Target}
 use Rattle.instructions.specs.declared.Rule.{Rule}
 use Rattle.instructions.specs.declared.Decoded.{Decoded}
-use Rattle.instructions.specs.declared.Decoded.the-variants.{Fits, NoCode, OutOfRange}
-use Rattle.instructions.proofs.Decoded.{the-type}
+use Rattle.instructions.specs.declared.Decoded.the-variants.{Fits}
 use Rattle.instructions.proofs.Laws.{fits-exactly}
 use Rattle.successors.specs.Successor.{changed, successorOf}
+use Rattle.successors.proofs.Misfit.{unfit}
 use Rattle.record_changes.proofs.change.Statement.{statement}
 use Rattle.record_changes.proofs.change.Tie as tie
 
--- bytes that fit no instruction, the second or third case, change nothing
-unchanged : (s : Site) (x : Bytes) (d : Decoded) → OneOf (1 ∷ 2 ∷ []) (tagOf the-type d) → s ≡ successorOf s x d
-unchanged s x (Fits y) (inl e) = absurd (omega arith)
-unchanged s x (Fits y) (inr e) = absurd (omega arith)
-unchanged s x NoCode k = refl
-unchanged s x OutOfRange k = refl
-
--- those that fit one have their numbers in range
+-- bytes that fit an instruction have their numbers in range
 record InRange (u a b : ℕ) (target : Target) : Type 0 where
   activator : u < 32
   first : a < 32
@@ -88,7 +77,7 @@ returns-2 c =
     let s = stateOf (now (start .args .bytes)) in
     laid told (successorOf s x (decodeOf x))
     (sym (bytes-of-state _ (given-record told))
-    ∙ ap bytesOf (unchanged s x (decode .decode .result) (c .match .keys2) ∙ ap (successorOf s x) (decode .decode .ensures .0)))
+    ∙ ap bytesOf (unfit s x (decode .decode .result) (c .match .keys2) ∙ ap (successorOf s x) (decode .decode .ensures .0)))
 
 set-target-requires : tie.Need-set-target-requires
 set-target-requires c κs =

@@ -7,7 +7,7 @@ use mathlib.Core.List.{List}
 use native.Mathlib.Omega.{arith}
 use borrow.Author.Needs.{needs}
 use denote.Ref.{now}
-use lib.Dec.{T, ltb→lt}
+use lib.Dec.{T, ltb, ltb→lt}
 use Rattle.state.specs.Site.{Site, user, area, object, withListed, owner, definition, structure, import, export}
 use Rattle.state.proofs.Laws.{list-shaped, relate-shaped}
 use Rattle.records.specs.Record.{bytesOf, stateOf}
@@ -25,24 +25,9 @@ in-arm : (s : Site) {bytes : List ℕ} {target : Target} {present : Bool} (k : T
     → Holds bytes (changed s k v u a b) → target ≡ k → present ≡ v → bytes ≡ bytesOf (changed s target present u a b)
 in-arm s k v u a b t told kind = t .same ∙ (λ i. bytesOf (changed s (sym told i) (sym kind i) u a b))
 
--- in the arm of target k, b is what the table says
-told-fits : {target : Target} (k : Target) (b : ℕ) → target ≡ k → T (fits target b) → T (fits k b)
-told-fits k b e t = subst (λ (x : Target). T (fits x b)) e t
-
-is-user : {target : Target} (b : ℕ) → target ≡ Owner → T (fits target b) → b < 32
-is-user b e t = ltb→lt b 32 (told-fits Owner b e t)
-
-is-area : {target : Target} (b : ℕ) → target ≡ Structure → T (fits target b) → b < 32
-is-area b e t = ltb→lt b 32 (told-fits Structure b e t)
-
-is-defined : {target : Target} (b : ℕ) → target ≡ Definition → T (fits target b) → b < 64
-is-defined b e t = ltb→lt b 64 (told-fits Definition b e t)
-
-is-imported : {target : Target} (b : ℕ) → target ≡ Import → T (fits target b) → b < 64
-is-imported b e t = ltb→lt b 64 (told-fits Import b e t)
-
-is-exported : {target : Target} (b : ℕ) → target ≡ Export → T (fits target b) → b < 64
-is-exported b e t = ltb→lt b 64 (told-fits Export b e t)
+-- in the arm of target k, b is below the limit n that the table says
+below : (k : Target) (n : ℕ) {target : Target} (b : ℕ) → ((m : ℕ) → fits k m ≡ ltb m n) → target ≡ k → T (fits target b) → b < n
+below k n b limit e t = ltb→lt b n (subst T (limit b) (subst (λ (x : Target). T (fits x b)) e t))
 
 -- bytes without an owner
 removed : (bytes before : List ℕ) (u a : ℕ) → bytes ≡ bytesOf (withoutOwner (stateOf before) u a) → Holds bytes (withoutOwner (stateOf before) u a)
@@ -102,20 +87,20 @@ listed3 : (c : tie.After-mark3)
 listed3 c =
     let told = c .before .before .before in
     let start = told .before .before .before in
-    marked _ _ _ (holds-record _ (start .pre .0)) user _ true (is-user _ (told .enum-told2 .given .1) (start .pre .3)) (c .mark3 .ensures)
+    marked _ _ _ (holds-record _ (start .pre .0)) user _ true (below Owner 32 _ (λ m. refl) (told .enum-told2 .given .1) (start .pre .3)) (c .mark3 .ensures)
 
 mark-requires-3 : tie.Need-mark-requires-3
 mark-requires-3 c κs =
     let told = c .before .before in
     let start = told .before .before .before in
-    omega (arith, record-length _ (start .pre .0), is-user _ (told .enum-told2 .given .1) (start .pre .3))
+    omega (arith, record-length _ (start .pre .0), below Owner 32 _ (λ m. refl) (told .enum-told2 .given .1) (start .pre .3))
 
 put-requires-2 : tie.Need-put-requires-2
 put-requires-2 c κs =
     let mark = c .before .before .before in
     let told = mark .before .before .before in
     let start = told .before .before .before in
-    omega (arith, holds-length _ _ (listed3 mark), is-user _ (told .enum-told2 .given .1) (start .pre .3), start .pre .2)
+    omega (arith, holds-length _ _ (listed3 mark), below Owner 32 _ (λ m. refl) (told .enum-told2 .given .1) (start .pre .3), start .pre .2)
 
 returns-3 : tie.Need-returns-3
 returns-3 c =
@@ -125,7 +110,7 @@ returns-3 c =
     let told = arm .before in
     let start = told .before .before .before in
     in-arm _ Owner true _ _ _
-    (related _ _ _ (listed3 mark) owner _ _ true (is-user _ (told .enum-told2 .given .1) (start .pre .3)) (start .pre .2) (put .put2 .ensures))
+    (related _ _ _ (listed3 mark) owner _ _ true (below Owner 32 _ (λ m. refl) (told .enum-told2 .given .1) (start .pre .3)) (start .pre .2) (put .put2 .ensures))
     (told .enum-told2 .given .1) (arm .if2 .taken)
 
 -- ---- or owns it no more
@@ -133,7 +118,7 @@ remove-owner-requires-2 : tie.Need-remove-owner-requires-2
 remove-owner-requires-2 c κs =
     let told = c .before .before in
     let start = told .before .before .before in
-    (start .pre .0, is-user _ (told .enum-told2 .given .1) (start .pre .3), start .pre .2)
+    (start .pre .0, below Owner 32 _ (λ m. refl) (told .enum-told2 .given .1) (start .pre .3), start .pre .2)
 
 returns-4 : tie.Need-returns-4
 returns-4 c =
@@ -148,20 +133,20 @@ listed4 : (c : tie.After-mark4)
 listed4 c =
     let told = c .before .before in
     let start = told .before .before .before in
-    marked _ _ _ (holds-record _ (start .pre .0)) object _ _ (is-defined _ (told .enum-told3 .given .1) (start .pre .3)) (c .mark4 .ensures)
+    marked _ _ _ (holds-record _ (start .pre .0)) object _ _ (below Definition 64 _ (λ m. refl) (told .enum-told3 .given .1) (start .pre .3)) (c .mark4 .ensures)
 
 mark-requires-4 : tie.Need-mark-requires-4
 mark-requires-4 c κs =
     let told = c .before in
     let start = told .before .before .before in
-    omega (arith, record-length _ (start .pre .0), is-defined _ (told .enum-told3 .given .1) (start .pre .3))
+    omega (arith, record-length _ (start .pre .0), below Definition 64 _ (λ m. refl) (told .enum-told3 .given .1) (start .pre .3))
 
 put-requires-3 : tie.Need-put-requires-3
 put-requires-3 c κs =
     let mark = c .before .before .before in
     let told = mark .before .before in
     let start = told .before .before .before in
-    omega (arith, holds-length _ _ (listed4 mark), is-defined _ (told .enum-told3 .given .1) (start .pre .3), start .pre .2)
+    omega (arith, holds-length _ _ (listed4 mark), below Definition 64 _ (λ m. refl) (told .enum-told3 .given .1) (start .pre .3), start .pre .2)
 
 returns-5 : tie.Need-returns-5
 returns-5 c =
@@ -170,7 +155,7 @@ returns-5 c =
     let told = mark .before .before in
     let start = told .before .before .before in
     in-arm _ Definition _ _ _ _
-    (related _ _ _ (listed4 mark) definition _ _ _ (is-defined _ (told .enum-told3 .given .1) (start .pre .3)) (start .pre .2) (put .put3 .ensures))
+    (related _ _ _ (listed4 mark) definition _ _ _ (below Definition 64 _ (λ m. refl) (told .enum-told3 .given .1) (start .pre .3)) (start .pre .2) (put .put3 .ensures))
     (told .enum-told3 .given .1) refl
 
 -- ---- a pair alone
@@ -178,7 +163,7 @@ put-requires-4 : tie.Need-put-requires-4
 put-requires-4 c κs =
     let told = c .before in
     let start = told .before .before .before in
-    omega (arith, record-length _ (start .pre .0), start .pre .2, is-area _ (told .enum-told4 .given .1) (start .pre .3))
+    omega (arith, record-length _ (start .pre .0), start .pre .2, below Structure 32 _ (λ m. refl) (told .enum-told4 .given .1) (start .pre .3))
 
 returns-6 : tie.Need-returns-6
 returns-6 c =
@@ -186,14 +171,14 @@ returns-6 c =
     let told = put .before .before in
     let start = told .before .before .before in
     in-arm _ Structure _ _ _ _
-    (related _ _ _ (holds-record _ (start .pre .0)) structure _ _ _ (start .pre .2) (is-area _ (told .enum-told4 .given .1) (start .pre .3)) (put .put4 .ensures))
+    (related _ _ _ (holds-record _ (start .pre .0)) structure _ _ _ (start .pre .2) (below Structure 32 _ (λ m. refl) (told .enum-told4 .given .1) (start .pre .3)) (put .put4 .ensures))
     (told .enum-told4 .given .1) refl
 
 put-requires-5 : tie.Need-put-requires-5
 put-requires-5 c κs =
     let told = c .before in
     let start = told .before .before .before in
-    omega (arith, record-length _ (start .pre .0), start .pre .2, is-imported _ (told .enum-told5 .given .1) (start .pre .3))
+    omega (arith, record-length _ (start .pre .0), start .pre .2, below Import 64 _ (λ m. refl) (told .enum-told5 .given .1) (start .pre .3))
 
 returns-7 : tie.Need-returns-7
 returns-7 c =
@@ -201,14 +186,14 @@ returns-7 c =
     let told = put .before .before in
     let start = told .before .before .before in
     in-arm _ Import _ _ _ _
-    (related _ _ _ (holds-record _ (start .pre .0)) import _ _ _ (is-imported _ (told .enum-told5 .given .1) (start .pre .3)) (start .pre .2) (put .put5 .ensures))
+    (related _ _ _ (holds-record _ (start .pre .0)) import _ _ _ (below Import 64 _ (λ m. refl) (told .enum-told5 .given .1) (start .pre .3)) (start .pre .2) (put .put5 .ensures))
     (told .enum-told5 .given .1) refl
 
 put-requires-6 : tie.Need-put-requires-6
 put-requires-6 c κs =
     let told = c .before in
     let start = told .before .before .before in
-    omega (arith, record-length _ (start .pre .0), start .pre .2, is-exported _ (told .enum-told6 .given .1) (start .pre .3))
+    omega (arith, record-length _ (start .pre .0), start .pre .2, below Export 64 _ (λ m. refl) (told .enum-told6 .given .1) (start .pre .3))
 
 returns-8 : tie.Need-returns-8
 returns-8 c =
@@ -216,7 +201,7 @@ returns-8 c =
     let told = put .before .before in
     let start = told .before .before .before in
     in-arm _ Export _ _ _ _
-    (related _ _ _ (holds-record _ (start .pre .0)) export _ _ _ (is-exported _ (told .enum-told6 .given .1) (start .pre .3)) (start .pre .2) (put .put6 .ensures))
+    (related _ _ _ (holds-record _ (start .pre .0)) export _ _ _ (below Export 64 _ (λ m. refl) (told .enum-told6 .given .1) (start .pre .3)) (start .pre .2) (put .put6 .ensures))
     (told .enum-told6 .given .1) refl
 
 pub set-target-spec : {M : Type 1} → statement M
