@@ -30,7 +30,7 @@ module _ (s : Site) (x : Instruction) (u a b : ℕ) {r : Rule} (row : r ≡ rule
   no-area : {P : Type 0} → ofObject (rule x .target) ≡ false → (k : Target) → r .target ≡ k → ofObject k ≡ true → P
   no-area none k told e = absurd (true≢false (sym e ∙ ap ofObject (sym told) ∙ ap (λ (q : Rule). ofObject (q .target)) row ∙ none))
 
--- ---- on the way: the start, the row of the instruction, and the state that it gives
+-- the start, before the state was made
 abbrev begun : tie.After-successor → tie.Start
 begun c = c .before .before
 
