@@ -37,6 +37,7 @@ examples: lib
 	@echo
 	@echo 'On a site file of your own: target/examples/handover-c FILE, or handover-rust;'
 	@echo 'target/examples/opening-c FILE ACTIVATOR SCHOOL HALL KEYHOLDER TABLE, or opening-rust'
+	@echo 'To change the file by instructions, a line each: target/examples/handover-c --change FILE <INSTRUCTIONS'
 
 test:
 	@tests/gate.sh

@@ -87,7 +87,7 @@ static int open_school(struct site *site, const struct call *call)
 }
 
 /* Reads a decimal number from 0 to 255; 0 if the text is none. A wider one must not become a byte unseen. */
-static int read_number(const char *text, uint8_t *number)
+static int read_argument(const char *text, uint8_t *number)
 {
     unsigned value = 0;
 
@@ -110,9 +110,9 @@ int main(int argc, char **argv)
     struct call call;
     int status;
 
-    if (argc != 7 || !read_number(argv[2], &call.activator) || !read_number(argv[3], &call.school) ||
-        !read_number(argv[4], &call.hall) || !read_number(argv[5], &call.keyholder) ||
-        !read_number(argv[6], &call.table)) {
+    if (argc != 7 || !read_argument(argv[2], &call.activator) || !read_argument(argv[3], &call.school) ||
+        !read_argument(argv[4], &call.hall) || !read_argument(argv[5], &call.keyholder) ||
+        !read_argument(argv[6], &call.table)) {
         fprintf(stderr, "usage: opening FILE ACTIVATOR SCHOOL HALL KEYHOLDER TABLE, numbers from 0 to 255\n");
         return FAILED;
     }

@@ -23,6 +23,8 @@ enum { ACCEPTED = 0, REFUSED = 1, FAILED = 2 };
 
 /* The words for the refusals that the examples can meet, which the Rust package has too. */
 static const char *const words[] = {
+    [PANELRIGHTS_UNKNOWN_CODE] =
+        "There is no such instruction. The program that gave it is at fault: tell its maker.",
     [PANELRIGHTS_OUT_OF_RANGE] =
         "A number is out of range: users and areas go from 0 to 31, tables from 0 to 63, and a second "
         "number that is not needed must be 0. Check the numbers that were entered.",
@@ -38,6 +40,26 @@ static const char *const words[] = {
     [PANELRIGHTS_ALREADY_THERE] =
         "It is there already, so there is nothing to add. For a new area or table choose a number that is "
         "free.",
+    [PANELRIGHTS_NOT_THERE] =
+        "It is not there, so there is nothing to remove. Check the numbers of the area and of what it should "
+        "have.",
+    [PANELRIGHTS_LAST_ONE] =
+        "Each area keeps an owner, and each site an area: the last one can't go. Add another one first.",
+    [PANELRIGHTS_AREA_IN_USE] =
+        "The area is still in use: it has another owner or a table, lies in an area or has one in it, or "
+        "imports or exports a table. Remove all these first.",
+    [PANELRIGHTS_WOULD_LACK_ACCESS] =
+        "The table does not reach the area, or only over more than 8 steps, so the area can't import or "
+        "export it. Either the area must lie in one that sees the table over at most 7 steps and import it "
+        "from there, or an area inside it that sees the table over at most 7 steps must export it.",
+    [PANELRIGHTS_WOULD_LOSE_ACCESS] =
+        "An area that imports or exports a table would lose its access to it: no way of at most 8 steps "
+        "would be left. Take back its export and its import of the table first, beginning with the area "
+        "that is the most steps away; or first lay another way of at most 8 steps.",
+    [PANELRIGHTS_OWN_IMPORT] =
+        "The table is stored on this area itself, so the area sees it and has nobody to borrow it from. If "
+        "another area is to borrow it, enter that area's number; to lend it to an area around this one, let "
+        "this one export it.",
     [PANELRIGHTS_FILE_TOO_SHORT] =
         "The site file is too short to be one: it is empty or was cut off. Fetch it again from where it "
         "was saved.",

@@ -1,7 +1,7 @@
-//! What the examples in Rust share: a site file with its state, how its areas and tables are printed, and the exit
-//! statuses.
+//! What the examples in Rust share: the state and the labels of a site file, how areas and tables are printed, and the
+//! exit statuses.
 
-use panelrights::{label, read_file, Refusal, State};
+use panelrights::{labels, read_file, Labels, Refusal, State};
 use std::ffi::OsStr;
 use std::fmt;
 use std::fs::File;
@@ -11,21 +11,20 @@ use std::process::ExitCode;
 /// What has so many bytes or more is refused for its version or length: the rest need not be read.
 const FILE_BYTES: u64 = 65_536;
 
-/// A site file with the state that it holds.
+/// What a site file holds.
 pub struct Site {
-    file: Vec<u8>,
     pub state: State,
+    pub labels: Labels,
 }
 
 impl Site {
-    pub fn read(file: Vec<u8>) -> Result<Site, Refusal> {
-        let state = read_file(&file)?;
-        Ok(Site { file, state })
+    pub fn read(file: &[u8]) -> Result<Site, Refusal> {
+        Ok(Site { state: read_file(file)?, labels: labels(file)? })
     }
 
     /// The area with its label, if it has one.
     pub fn area(&self, area: u8) -> String {
-        match label(&self.file, area.into()) {
+        match self.labels.get(area) {
             Some(text) => format!("area {area} '{text}'"),
             None => format!("area {area}"),
         }

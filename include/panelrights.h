@@ -48,7 +48,10 @@ enum {
     PANELRIGHTS_MOST_STEPS = 8,         /* an object may be lent across at most so many steps */
     PANELRIGHTS_STATE_BYTES = 1040,     /* what panelrights_state_bytes() gives, for an array's length */
     PANELRIGHTS_RECIPE_ENTRY_BYTES = 5, /* how many bytes each instruction of a recipe has */
-    PANELRIGHTS_RECIPE_MOST = 16        /* how many instructions a recipe may have */
+    PANELRIGHTS_RECIPE_MOST = 16,       /* how many instructions a recipe may have */
+    PANELRIGHTS_FILE_MOST = 13340,      /* how many bytes a site file has at most, in this version */
+    PANELRIGHTS_LABEL_ENTRY_BYTES = 32, /* how many bytes each entry of a label block has */
+    PANELRIGHTS_LABEL_TEXT_MOST = 30    /* how many bytes the text of a label has at most */
 };
 
 /*
@@ -78,9 +81,9 @@ enum {
  * 2 wrote has another length, and is refused.
  *
  * A record is for the memory of one program: a later version of the library may have another length and
- * another layout (compare panelrights_state_bytes() with PANELRIGHTS_STATE_BYTES once, at the start). On
- * disk, and between programs, keep site files. A record has no seal: whoever can write to it can make any
- * other state of it.
+ * another layout (compare panelrights_state_bytes() with PANELRIGHTS_STATE_BYTES once, at the start). On disk,
+ * and between programs, keep site files (panelrights_write_file). A record has no seal: whoever can write to
+ * it can make any other state of it.
  *
  * These read a record, of which all bytes must be there: 1 if the number is listed or the pair is there,
  * else 0, also for a number out of range. They may evaluate an argument more than once. A pair is written as
@@ -127,7 +130,8 @@ enum panelrights_code {
 /*
  * The refusals. Where more than one applies you get the first in the order of the checks: for an
  * instruction 12, 1 to 7 upwards, 15, 8 to 11 upwards; for a recipe 12, 14, then those of its first
- * instruction that is refused; for the access question 12, 2, 4; for a site file 31, then the lowest number.
+ * instruction that is refused; for the access question 12, 2, 4; for a site file that is read 31, then the
+ * lowest number; for one that is written 12, 30, 31.
  * A later version may have more numbers: keep a default case.
  *
  * An instruction can be refused as 12, 1, 2 or 3, and besides by its code as
@@ -167,9 +171,14 @@ enum panelrights_refusal {
     PANELRIGHTS_FILE_LACKS_ACCESS = 29, /* an import or export pair whose area lacks access, or an import pair
                                            whose area defines the object */
 
+    PANELRIGHTS_LABEL_BLOCK = 30,       /* panelrights_write_file: the label block has a partial entry; or an entry
+                                           with a number, length, text byte or filler byte outside its range, or
+                                           with an area that is not listed; or its areas do not strictly ascend */
+
     /* panelrights_founding, panelrights_read_file: the state buffer has another length than a record. (A
        record of another length is 12 where one is read: panelrights_step, panelrights_recipe,
-       panelrights_access.) */
+       panelrights_access, panelrights_write_file.) panelrights_write_file: the buffer is shorter than the
+       file. */
     PANELRIGHTS_BUFFER_LENGTH = 31
 };
 
@@ -237,10 +246,10 @@ uint16_t panelrights_access(const uint8_t *state, size_t state_len, uint32_t are
  * Reads a site file. 0, and the record is that of the file's state; or the refusal, 21 to 29, and the
  * record is that of the founding state: what was in the buffer is gone, so read into a second one if you
  * need it. 31 and no byte written, whatever the file has, if state_len is not panelrights_state_bytes().
- * No accepted file is longer than 13,340 bytes. A file that an earlier version of the library accepted is 29
- * now if an import or export in it needs more than 8 steps (from 2.1.0 on), or if an area in it imports what
- * it defines (from 2.2.0 on); nobody's access rests on such an import, so it can be taken out alone. The
- * library reads site files and does not write them.
+ * No accepted file is longer than PANELRIGHTS_FILE_MOST bytes. A file that an earlier version of the library
+ * accepted is 29 now if an import or export in it needs more than 8 steps (from 2.1.0 on), or if an area in it
+ * imports what it defines (from 2.2.0 on); nobody's access rests on such an import, so it can be taken out
+ * alone.
  */
 uint8_t panelrights_read_file(const uint8_t *file, size_t file_len, uint8_t *state, size_t state_len);
 
@@ -253,8 +262,42 @@ uint8_t panelrights_read_file(const uint8_t *file, size_t file_len, uint8_t *sta
  */
 uint32_t panelrights_label(const uint8_t *file, size_t file_len, uint32_t area);
 
+/*
+ * Where the label block of the file stands: offset * 65536 + length. 0 if the file is refused: test for it, or
+ * the labels are lost when you write. A file without labels has a block of length 0, and the answer is not 0.
+ * The block is what panelrights_write_file takes. Each call checks the whole file.
+ */
+uint32_t panelrights_labels(const uint8_t *file, size_t file_len);
+
+/* The two parts of the answer of panelrights_label or panelrights_labels. */
 #define PANELRIGHTS_LABEL_OFFSET(label) ((size_t)((label) >> 16))
 #define PANELRIGHTS_LABEL_LENGTH(label) ((size_t)((label)&0xffff))
+
+/* What panelrights_write_file adds to a refusal. */
+enum { PANELRIGHTS_WRITE_REFUSED = 65536 };
+
+/*
+ * Writes the site file of a state and its labels into the buffer, from its front on. The length of the file,
+ * and bytes past the length keep their content; or 65536 + n for refusal n, which is 12, 30 or 31, and no byte
+ * is changed. Keep the answer in 32 bits, and compare refusals with answer - PANELRIGHTS_WRITE_REFUSED: an
+ * answer of 30 is a length, that of the founding state's file. A buffer of just the file's length will do, and
+ * one of PANELRIGHTS_FILE_MOST bytes always does. A record of another length is 12.
+ *
+ * A label block has an entry of 32 bytes for each labelled area, in ascending order of the areas: the area,
+ * the length of the text (1 to 30), the text (bytes 32 to 126), then zeros. So 4, 4, 'H', 'a', 'l', 'l' and 26
+ * zeros are the label Hall of area 4. labels_len is 32 times the number of entries, and 0 for none. Each
+ * labelled area must be listed, else the block is refused as 30. Leave the entry of an area out once it is
+ * unlisted: if its number is listed again, the old text would be the new area's.
+ *
+ * What was written is read again, as the same record and the same label block: file_len is then the answer,
+ * and not the buffer's length. An accepted file is written again from its record and its label block, byte for
+ * byte. So to change a file that was read, keep its label block, obey instructions, take out the entries of
+ * areas that were unlisted, and write. The block may be a part of the file that was read: then write into
+ * another buffer, since the two must not overlap. On disk, write a new file and put it in the old one's place
+ * once it is whole: what fails on the way then leaves the old one as it was.
+ */
+uint32_t panelrights_write_file(const uint8_t *state, size_t state_len, const uint8_t *labels, size_t labels_len,
+                                uint8_t *file, size_t file_len);
 
 /*
  * For a program's own list of areas, eight marks in a byte, the lowest number in the lowest bit: the place

@@ -25,7 +25,7 @@ compile_c() {
     quietly gcc -std=c99 -O2 -Wall -Wextra -Werror -pedantic "$@"
 }
 
-checks=(tests/interface/{main,names,machine,recipes,forms,agreement,records,reading,files,edges,check}.c)
+checks=(tests/interface/{main,names,machine,recipes,forms,agreement,records,reading,files,writing,blocks,edges,check}.c)
 
 # The C checks, built with the flags given to the compiler; prints how many there were.
 run_checks() {
@@ -86,6 +86,30 @@ expect_refusal() {
     expect 1 "$work/expected" '' "$program-c" "$@"
 }
 
+# The handover program with --change and an input, on a copy of the school's site file: status, output and complaint as
+# above, the site file is then that of the name in $work, and nothing stands beside it.
+expect_change() {
+    local name=$1 input=$2 program=$6 left
+    cp examples/school.site "$work/kept.site"
+    expect "$3" "$4" "$5" "$program" --change "$work/kept.site" <"$input"
+    cmp "$work/kept.site" "$work/$name.site" || fail "$program --change <$input: the file is not that of $name.site"
+    left=("$work"/kept.site*)
+    [ ${#left[@]} = 1 ] || fail "$program --change <$input: the new file is left"
+}
+
+# Both programs refuse the line with this number in the same words, and the school's site file stays.
+expect_refused_line() {
+    local program
+    printf '%s\n' "$2" >"$work/line.in"
+    cp examples/school.site "$work/kept.site"
+    target/examples/handover-rust --change "$work/kept.site" <"$work/line.in" >"$work/expected" || true
+    grep -qx "Refused as $1\. At line 1: [A-Z].*\. Nothing was changed\." "$work/expected" ||
+        fail "the line '$2' is not refused as $1: $(cat "$work/expected")"
+    for program in target/examples/handover-{c,rust}; do
+        expect_change school "$work/line.in" 1 "$work/expected" '' "$program"
+    done
+}
+
 [ -f "$library" ] || fail "$library is not there: run make lib"
 
 # The archive has the header's functions and no other name, asks for memcpy and memset, and has nothing that can be
@@ -111,7 +135,7 @@ compared=$(sed -nE 's/^ *CHECK_NUMBER\((PANELRIGHTS_[A-Z_]+), [0-9]+\);$/\1/p' t
 [ "$numbered" = "$compared" ] || fail 'tests/interface/names.c has other names than the header gives a number'
 
 # The refusals of the header and of the Rust package are the numbers that the claims allow: those of a step, of a recipe
-# and of a file, and 31. The first two lists have most numbers in common.
+# and of a file that is read or written, and 31. The first two lists have most numbers in common.
 refusals=$(sed -n '/^enum panelrights_refusal {/,/^};/s/.* = \([0-9]*\).*/\1/p' include/panelrights.h | sort -n)
 allowed=$({
     printf '0\n31\n'
@@ -119,11 +143,12 @@ allowed=$({
     numbers_of stepNumbers crates/refusals/specs/Refusals.antt
     numbers_of recipeNumbers crates/recipe_guarantees/specs/Claims.antt
     numbers_of readNumbers crates/site_file/specs/Reading.antt
+    numbers_of writeNumbers crates/site_encoding/specs/Writer.antt
 } | sort -un)
-[ "$refusals" = "$allowed" ] || fail 'the header has other refusals than stepNumbers, recipeNumbers and readNumbers'
+lists='stepNumbers, recipeNumbers, readNumbers and writeNumbers'
+[ "$refusals" = "$allowed" ] || fail "the header has other refusals than $lists"
 packaged=$({ echo 0; sed -nE 's/^    [A-Za-z]+ = ([0-9]+): ".*/\1/p' bindings/rust/src/refusal.rs; } | sort -n)
-[ "$packaged" = "$allowed" ] ||
-    fail 'the Rust package has other refusals than stepNumbers, recipeNumbers and readNumbers'
+[ "$packaged" = "$allowed" ] || fail "the Rust package has other refusals than $lists"
 
 # The limit of steps is that of the definition, in the header and in the Rust package.
 longest=$(sed -n 's/^longest = //p' crates/access/specs/Answer.antt)
@@ -132,6 +157,14 @@ grep -qE "^ *PANELRIGHTS_MOST_STEPS = $longest," include/panelrights.h ||
     fail "the header's limit of steps is not $longest"
 grep -qxF "pub const MOST_STEPS: u8 = $longest;" bindings/rust/src/state.rs ||
     fail "the Rust package's limit of steps is not $longest"
+
+# So is the length of the longest site file; the Rust package's number has an underscore in it.
+most=$(sed -n 's/^mostBytes = //p' crates/site_encoding/specs/Claims.antt)
+[ -n "$most" ] || fail 'crates/site_encoding/specs/Claims.antt does not say the length of the longest file'
+grep -qE "^ *PANELRIGHTS_FILE_MOST = $most," include/panelrights.h ||
+    fail "the header's longest file is not of $most bytes"
+packaged=$(sed -n 's/^pub const FILE_MOST: usize = \([0-9_]*\);$/\1/p' bindings/rust/src/sys.rs | tr -d _)
+[ "$packaged" = "$most" ] || fail "the Rust package's longest file is not of $most bytes"
 
 printed=$(run_checks -Iinclude "$library")
 quietly g++ -std=c++11 -Wall -Wextra -Werror -pedantic -Iinclude tests/interface/header.cc "$library" -o "$work/header"
@@ -176,14 +209,38 @@ printf '%s\n' '#include <panelrights.h>' 'static uint8_t site[PANELRIGHTS_STATE_
     'panelrights_step(site, sizeof site, PANELRIGHTS_LIST_AREA, 0, 7, 0);' 'return obey(0, 3) != 0; }' >"$work/recipe.c"
 compile_c "$work/recipe.c" "${flags[@]}" -o "$work/recipe"
 "$work/recipe" || fail "README.md's recipe is not obeyed"
+# Its saving gives the bytes of the file that was read, and 30 once area 3, which has a label, is unlisted.
+take_readme c "$work/saving.h" "$work/behind" Saving
+printf '%s\n' '#include <panelrights.h>' '#include <stdio.h>' '#include <string.h>' \
+    'static uint8_t site[PANELRIGHTS_STATE_BYTES], old[65536];' 'static size_t old_len;' \
+    'static uint32_t save(void) {' '#include "saving.h"' 'return memcmp(file, old, old_len) ? 0 : length; }' \
+    'int main(void) {' 'old_len = fread(old, 1, sizeof old, stdin);' \
+    'panelrights_read_file(old, old_len, site, sizeof site);' 'if (save() != old_len) return 1;' \
+    'panelrights_step(site, sizeof site, 6, 3, 3, 2);' 'panelrights_step(site, sizeof site, 2, 3, 3, 0);' \
+    'return save() != PANELRIGHTS_WRITE_REFUSED + PANELRIGHTS_LABEL_BLOCK; }' >"$work/saving.c"
+compile_c "$work/saving.c" "${flags[@]}" -o "$work/saving"
+"$work/saving" <examples/school.site || fail "README.md's saving in C does not write what it says"
 take_readme rust "$work/lend.rs" "$work/behind"
-mkdir -p "$work/readme/src"
+mkdir -p "$work/readme/src/bin"
 printf '%s\n' '#![deny(warnings)]' "$(cat "$work/lend.rs")" \
     'fn main() { assert_eq!(lend(&[]), Err(Refusal::FileTooShort)); }' >"$work/readme/src/main.rs"
 printf '%s\n' '[package]' 'name = "readme"' 'edition = "2021"' '[dependencies]' \
     "panelrights = { path = \"$PWD/bindings/rust\" }" '[workspace]' >"$work/readme/Cargo.toml"
-quietly cargo run --quiet --offline --manifest-path "$work/readme/Cargo.toml"
-echo "interface: README.md's program in C prints '$said', and its recipe is obeyed; its function in Rust is called"
+quietly cargo run --quiet --offline --manifest-path "$work/readme/Cargo.toml" --bin readme
+# Its saving in Rust, once for each line of the school's change, gives the file that is stored as text.
+bytes_of examples/changed.txt >"$work/saved.site"
+take_readme rust "$work/saving.rs" "$work/behind" Saving
+printf '%s\n' '#![deny(warnings)]' "$(cat "$work/saving.rs")" 'fn main() {' \
+    'let [school, lines, saved] = [1, 2, 3].map(|n| std::fs::read(std::env::args().nth(n).unwrap()).unwrap());' \
+    'let numbers = |line: &str| -> Vec<u8> { line.split(" ").map(|word| word.parse().unwrap()).collect() };' \
+    'let instruction = |line: &str| <[u8; 4]>::try_from(numbers(line)).unwrap().into();' \
+    'let lines = String::from_utf8(lines).unwrap();' \
+    'let file = lines.lines().try_fold(school, |file, line| changed(&file, instruction(line)));' \
+    'assert_eq!(file, Ok(saved)); }' >"$work/readme/src/bin/saving.rs"
+quietly cargo run --quiet --offline --manifest-path "$work/readme/Cargo.toml" --bin saving \
+    examples/school.site examples/change.in "$work/saved.site"
+echo "interface: README.md's program in C prints '$said', and its recipe is obeyed; its function in Rust is called;" \
+    'its saving writes the school again in C, and the changed school in Rust'
 
 mkdir "$work/shared"
 quietly gcc -shared -Wl,-z,defs -Wl,--whole-archive "$library" -Wl,--no-whole-archive \
@@ -204,11 +261,12 @@ bytes_of examples/school.txt | cmp - examples/school.site || fail "examples/scho
 change_school 63 03
 cmp "$work/changed.site" examples/damaged.site || fail "examples/damaged.site is not what README.md there says"
 quietly make -o lib examples CFLAGS='-std=c99 -O2 -Wall -Wextra -Werror -pedantic'
+usage='usage: handover [--change] FILE'
 for program in target/examples/handover-c target/examples/handover-rust; do
     expect 0 examples/school.out '' "$program" examples/school.site
     expect 1 examples/damaged.out '' "$program" examples/damaged.site
-    expect 2 /dev/null 'usage: handover FILE' "$program"
-    expect 2 /dev/null 'usage: handover FILE' "$program" examples/school.site examples/school.site
+    expect 2 /dev/null "$usage" "$program"
+    expect 2 /dev/null "$usage" "$program" examples/school.site examples/school.site
     expect 2 /dev/null "handover: the file can't be read" "$program" "$work/nowhere"
     expect 2 /dev/null "handover: the file can't be read" "$program" "$work"
     # shellcheck disable=SC2016 # the inner shell fills in its own arguments
@@ -223,6 +281,83 @@ for change in '22 0 00' '23 344 00' '24 6 41' '25 16 1d' '26 29 20' '27 31 00' '
     read -ra parts <<<"$change"
     change_school "${parts[@]:1}"
     expect_refusal "Refused as ${parts[0]}\. [A-Z].*\." handover "$work/changed.site"
+done
+
+cp examples/school.site "$work/school.site"
+# A site of area 1 alone, which user 3 owns, and no labels; and what is printed once he has listed area 2.
+printf '\1\0\36\0\1\0\0\0\0\0\0\0\0\0\0\0\34\0\36\0\36\0\36\0\36\0\36\0\3\1' >"$work/lone.site"
+printf '%s\n' Areas '  area 1' '  area 2' '' 'Who may change what' '  user 3 may change area 1' \
+    '  user 3 may change area 2' '' 'Who sees which table' >"$work/two.out"
+# An owner added and removed, 4,096 times: 65,536 bytes. And a byte more.
+for ((pair = 0; pair < 4096; pair++)); do printf '3 0 0 4\n4 0 0 4\n'; done >"$work/most.in"
+{ cat "$work/most.in" && echo; } >"$work/above.in"
+# The last line has no end; a refused line in front of an unreadable one; a line with a byte 0.
+printf '1 0 9 0\n1 0 10 0' >"$work/open.in"
+printf '1 0 9 0\n1 0 9 0\n\n' >"$work/both.in"
+printf '1 0 9 0\n1 0 10 0\0\n' >"$work/zero.in"
+refused='Refused as 6. At line 2: It is there already, so there is nothing to add. For a new area or table choose a'
+echo "$refused number that is free. Nothing was changed." >"$work/both.out"
+for program in target/examples/handover-{c,rust}; do
+    expect_change saved examples/change.in 0 examples/changed.out '' "$program"
+    expect_change school /dev/null 0 examples/school.out '' "$program"
+    expect_change school "$work/most.in" 0 examples/school.out '' "$program"
+    expect_change school "$work/above.in" 2 /dev/null 'handover: the instructions are too long' "$program"
+    expect_change school "$work" 2 /dev/null "handover: the instructions can't be read" "$program"
+    expect_change school examples/change-refused.in 1 examples/change-refused.out '' "$program"
+    expect_change school "$work/both.in" 1 "$work/both.out" '' "$program"
+    for input in examples/change-unreadable.in "$work/open.in" "$work/zero.in"; do
+        expect_change school "$input" 1 examples/change-unreadable.out '' "$program"
+    done
+    cp "$work/lone.site" "$work/two.site"
+    expect 0 "$work/two.out" '' "$program" --change "$work/two.site" <<<'1 3 2 0'
+    expect 0 "$work/two.out" '' "$program" "$work/two.site"
+    # What an earlier run left there is written over.
+    cat examples/school.site examples/school.site >"$work/kept.site.new"
+    expect_change saved examples/change.in 0 examples/changed.out '' "$program"
+    # A disk that is full, one that keeps nothing, and a folder in the way, which is not removed.
+    for disk in /dev/full /dev/null; do
+        ln -s "$disk" "$work/kept.site.new"
+        expect_change school examples/change.in 2 /dev/null "handover: the file can't be written" "$program"
+    done
+    mkdir "$work/school.site.new"
+    expect 2 /dev/null "handover: the file can't be written" "$program" --change "$work/school.site" <examples/change.in
+    rmdir "$work/school.site.new"
+    cp examples/damaged.site "$work/damaged.site"
+    expect 1 examples/damaged.out '' "$program" --change "$work/damaged.site" <examples/change.in
+    cmp "$work/damaged.site" examples/damaged.site || fail "$program --change: it writes over a file that is refused"
+    expect 2 /dev/null "handover: the file can't be read" "$program" --change "$work/nowhere" <examples/change.in
+    expect 2 /dev/null "$usage" "$program" --change <examples/change.in
+    expect 2 /dev/null "$usage" "$program" --change "$work/school.site" "$work/school.site" <examples/change.in
+    expect 2 /dev/null "$usage" "$program" "$work/school.site" --change <examples/change.in
+    # The file is saved before anything is printed.
+    cp examples/school.site "$work/kept.site"
+    # shellcheck disable=SC2016 # the inner shell fills in its own arguments
+    expect 2 /dev/null "handover: the output can't be written" \
+        sh -c '"$1" --change "$2" <examples/change.in >/dev/full' sh "$program" "$work/kept.site"
+    cmp "$work/kept.site" "$work/saved.site" || fail "$program --change: the file is not saved"
+    cmp "$work/school.site" examples/school.site || fail "$program --change: it writes where it should not"
+done
+# Each number that a line can be refused with.
+while read -r number line; do
+    expect_refused_line "$number" "$line"
+done <<END
+1 0 0 0 0
+1 255 255 255 255
+2 7 0 0 64
+3 1 1 9 0
+4 7 0 9 30
+5 7 5 1 30
+6 1 0 4 0
+7 10 0 1 9
+8 4 0 1 0
+9 2 3 3 0
+10 9 3 3 20
+11 12 0 1 9
+15 9 3 2 9
+END
+for line in '' 1 '1 0 9' '1 0 9 0 0' ' 1 0 9 0' '1 0 9 0 ' '1  0 9 0' '01 0 9 0' '1 00 9 0' '256 0 9 0' '1 0 9 1000' \
+    '-1 0 9 0' '+1 0 9 0' $'1\t0 9 0' $'1 0 9 0\r' '1 0 9 x' '1,0,9,0' $'1 0 9 \xff'; do
+    expect_refused_line 13 "$line"
 done
 
 usage='usage: opening FILE ACTIVATOR SCHOOL HALL KEYHOLDER TABLE, numbers from 0 to 255'
@@ -245,8 +380,6 @@ for program in target/examples/opening-c target/examples/opening-rust; do
     expect 2 /dev/null "opening: the output can't be written" \
         sh -c '"$1" examples/school.site 0 9 10 14 30 >/dev/full' sh "$program"
 done
-# A site of area 1 alone, which user 3 owns.
-printf '\1\0\36\0\1\0\0\0\0\0\0\0\0\0\0\0\34\0\36\0\36\0\36\0\36\0\36\0\3\1' >"$work/lone.site"
 # Each place and number that an opening can be refused with, and a call that is; the stored ones have the others.
 while read -r place number call; do
     read -ra parts <<<"$call"
@@ -263,8 +396,9 @@ done <<END
 8 2 examples/school.site 0 9 10 32 30
 8 6 examples/school.site 0 9 10 0 30
 END
-echo "interface: $runs runs of the examples, which in C and in Rust print what is stored for the school and for" \
-    'openings, and the same words for each refusal of a file or of an opening'
+echo "interface: $runs runs of the examples, which in C and in Rust print what is stored for the school, for its" \
+    'change and for openings, save the same bytes, and have the same words for each refusal of a file, of a line or' \
+    'of an opening'
 
 PANELRIGHTS_LIB_DIR=$work/usr/lib quietly cargo test --quiet --locked --manifest-path bindings/rust/Cargo.toml
 passed=$(awk '/^test result: ok/ { passed += $4 } END { print passed + 0 }' "$work/log")

@@ -6,11 +6,13 @@ use crate::recipe::Call;
 use crate::record::{cell, Record};
 use crate::rows::Rows;
 use crate::rules::{Bytes, NO_ACCESS, REFUSED};
-use crate::{files, ideal, ideal_reader, library, plain, plain_reader};
+use crate::site_file::FILE_MOST;
+use crate::{files, ideal, ideal_reader, ideal_writer, library, plain, plain_reader, plain_writer};
 use chance::Chance;
+use std::fmt::Display;
 
 /// Demands one answer, and the state of the plain baseline from the other two as well.
-fn demand(answers: [u16; 3], states: [bool; 2], asked: impl FnOnce() -> String) {
+fn demand<N: PartialEq + Display>(answers: [N; 3], states: [bool; 2], asked: impl FnOnce() -> String) {
     let [library, plain, ideal] = answers;
     assert!(
         library == plain && plain == ideal && states == [true, true],
@@ -93,6 +95,22 @@ pub fn read(file: &[u8]) -> u8 {
     refusal
 }
 
+/// The length of the file that is written, or the refusal; for a buffer of so many bytes.
+pub fn write(s: &Record, labels: &[u8], room: usize) -> Result<usize, u8> {
+    // A byte that no file of letters and small numbers has: what is left as it was is seen.
+    let buffers = [[0xa5; FILE_MOST + 1]; 3];
+    let [mut by_library, mut by_plain, mut by_ideal] = buffers;
+    let number = library::write(&s.bytes(), labels, &mut by_library[..room]);
+    let length = plain_writer::write(s, labels, &mut by_plain[..room]);
+    let answers = [length, ideal_writer::write(&Rows::of(s), labels, &mut by_ideal[..room])];
+    let [plain, ideal] = answers.map(|answer| answer.map_or_else(|refusal| 65_536 + u32::from(refusal), |n| n as u32));
+    let alike = [by_library == by_plain, by_ideal == by_plain];
+    demand([number, plain, ideal], alike, || {
+        format!("The labels {labels:?} and {room} bytes for the state of {}", tell(s))
+    });
+    length
+}
+
 /// The place of the lowest mark.
 pub fn lowest_mark(marks: u8) -> u8 {
     let place = plain::lowest_mark(marks);
@@ -130,6 +148,8 @@ struct Seen {
     questions: [u32; 5],
     /// By refusal: 0, 21 to 29.
     files: [u32; 10],
+    /// By refusal: 0, 12, 30, 31.
+    writings: [u32; 4],
     borders: Borders,
     /// States with an import or export at 9 steps, refused as 12 and as 29.
     too_far: u32,
@@ -178,22 +198,51 @@ impl Seen {
         self.files[usize::from(refusal.saturating_sub(20))] += 1;
     }
 
-    fn lines(&self) -> [String; 5] {
+    /// The file of the state, with a label for each listed area; at times the labels are damaged, or the buffer has
+    /// another length than the file.
+    fn writing(&mut self, chance: &mut Chance, s: &Record) {
+        let mut labels = files::labels(&s.areas);
+        let length = files::with_labels(s, &labels).len();
+        if chance.once_in(2) && !labels.is_empty() {
+            labels = random::damaged_block(chance, labels);
+        }
+        let any = chance.below(length);
+        let room = chance.pick(&[length, length, length - 1, length + 1, any, FILE_MOST]);
+        let kind = match write(s, &labels, room.min(FILE_MOST + 1)) {
+            Ok(_) => 0,
+            Err(12) => 1,
+            Err(30) => 2,
+            Err(_) => 3,
+        };
+        self.writings[kind] += 1;
+    }
+
+    fn lines(&self) -> [String; 6] {
         let Seen {
             steps,
             questions,
             files,
+            writings,
             borders,
             too_far,
             own_imports,
         } = self;
         let at_borders = [borders.questions, borders.adds, borders.removals];
         let unsound = [*too_far, *own_imports];
-        let every = [&steps[..], questions, files, &unsound, at_borders.as_flattened()].concat();
+        let every = [
+            &steps[..],
+            questions,
+            files,
+            writings,
+            &unsound,
+            at_borders.as_flattened(),
+        ]
+        .concat();
         let lines = [
             format!("agree: instructions answered 0 to 12, 15: {steps:?}"),
             format!("agree: questions answered by steps, no access, 12, 2, 4: {questions:?}"),
             format!("agree: files answered 0, 21 to 29: {files:?}"),
+            format!("agree: writings answered 0, 12, 30, 31: {writings:?}"),
             format!(
                 "agree: at 8 and 9 steps: questions {:?}, imports and exports {:?}, removes {:?}; \
                  states refused for 9: {too_far}",
@@ -216,6 +265,7 @@ impl Seen {
             let file = files::file(s);
             self.file(&file);
             self.file(&random::damaged_file(chance, file));
+            self.writing(chance, s);
         }
     }
 
@@ -238,8 +288,8 @@ impl Seen {
 }
 
 /// Walks of random instructions from the founding state, over few numbers and over all; on the way damaged records, the
-/// access question and files. Then the circles. Gives lines on what was seen.
-pub fn compare(count: u32) -> [String; 5] {
+/// access question and files, read and written. Then the circles. Gives lines on what was seen.
+pub fn compare(count: u32) -> [String; 6] {
     let mut chance = Chance::new(2);
     let mut seen = Seen::default();
     let mut s = Record::founding();

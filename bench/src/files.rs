@@ -14,7 +14,7 @@ fn pairs(cells: &[bool]) -> Vec<u8> {
 }
 
 /// A label of 1 to 30 letters for each listed area.
-fn labels(areas: &[bool; AREAS]) -> Vec<u8> {
+pub fn labels(areas: &[bool; AREAS]) -> Vec<u8> {
     let mut table = Vec::new();
     for area in (0..AREAS).filter(|&a| areas[a]) {
         let length = 1 + area % 30;
@@ -29,13 +29,18 @@ fn labels(areas: &[bool; AREAS]) -> Vec<u8> {
 
 /// The file of a record, with a label for each listed area.
 pub fn file(s: &Record) -> Vec<u8> {
+    with_labels(s, &labels(&s.areas))
+}
+
+/// The file of a record and a label block.
+pub fn with_labels(s: &Record, block: &[u8]) -> Vec<u8> {
     let tables = [
         (pairs(&s.owners), 2),
         (pairs(&s.definitions), 2),
         (pairs(&s.structure), 2),
         (pairs(&s.imports), 2),
         (pairs(&s.exports), 2),
-        (labels(&s.areas), LABEL),
+        (block.to_vec(), LABEL),
     ];
     let total = HEADER + tables.iter().map(|(bytes, _)| bytes.len()).sum::<usize>();
     let mut fields = vec![1, total];

@@ -129,8 +129,13 @@ pub fn borrows_from_others(s: &Rows) -> bool {
     own == 0
 }
 
-fn is_sound(moves: &Moves) -> bool {
+fn are_sound(moves: &Moves) -> bool {
     is_well_formed(moves.s) && borrows_from_others(moves.s) && moves.are_valid()
+}
+
+pub fn is_sound(s: &Rows) -> bool {
+    let turned = turned(&s.structure);
+    are_sound(&Moves { s, turned: &turned })
 }
 
 /// Obeys the instruction and gives 0, or gives its refusal and leaves the state as it was.
@@ -140,7 +145,7 @@ pub fn step(s: &mut Rows, bytes: Bytes) -> u8 {
 
 fn obeyed(s: &mut Rows, bytes: Bytes) -> Result<(), u8> {
     let mut turned = turned(&s.structure);
-    if !is_sound(&Moves { s, turned: &turned }) {
+    if !are_sound(&Moves { s, turned: &turned }) {
         return Err(12);
     }
     obeyed_if_sound(s, &mut turned, bytes)
@@ -174,7 +179,7 @@ fn last_checks(s: &Rows, turned: &[u32; AREAS], x: Instruction) -> Result<(), u8
 /// instruction leaves a sound state, so only the given one is asked whether it is sound.
 pub fn recipe(s: &mut Rows, call: &Call) -> u16 {
     let mut turned = turned(&s.structure);
-    if !is_sound(&Moves { s, turned: &turned }) {
+    if !are_sound(&Moves { s, turned: &turned }) {
         return 12;
     }
     let Some(instructions) = call.instructions() else {
@@ -194,7 +199,7 @@ pub fn recipe(s: &mut Rows, call: &Call) -> u16 {
 pub fn access(s: &Rows, area: u32, object: u32) -> u16 {
     let turned = turned(&s.structure);
     let moves = Moves { s, turned: &turned };
-    if !is_sound(&moves) {
+    if !are_sound(&moves) {
         return REFUSED + 12;
     }
     match rules::question(s, area, object) {

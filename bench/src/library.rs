@@ -43,6 +43,21 @@ pub fn read(file: &[u8], state: &mut RecordBytes) -> u8 {
     unsafe { sys::panelrights_read_file(file.as_ptr(), file.len(), state.as_mut_ptr(), state.len()) }
 }
 
+/// The length of the file that it writes, or 65,536 and the refusal.
+pub fn write(state: &RecordBytes, labels: &[u8], file: &mut [u8]) -> u32 {
+    // SAFETY: as above, for all three; the slices borrowed to be read don't overlap the one borrowed to be written.
+    unsafe {
+        sys::panelrights_write_file(
+            state.as_ptr(),
+            state.len(),
+            labels.as_ptr(),
+            labels.len(),
+            file.as_mut_ptr(),
+            file.len(),
+        )
+    }
+}
+
 /// The place (0 to 7) of the lowest mark set in the byte, 8 if none.
 pub fn lowest_mark(marks: u8) -> u8 {
     // SAFETY: a number is all that it takes.

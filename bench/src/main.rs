@@ -1,7 +1,8 @@
 //! Measures the library over the C interface beside two baselines in Rust, one plain and one ideal, in one run: the
-//! step, the recipe, the access question, the reader of site files and the lowest mark; and the program PanelRights
-//! beside a session in plain Rust. Before that it compares the answers of the three on random instructions, of which an
-//! argument gives the number, on half as many random recipes, and on every byte of marks.
+//! step, the recipe, the access question, the reader and the writer of site files and the lowest mark; and the program
+//! PanelRights beside a session in plain Rust. Before that it compares the answers of the three on random instructions,
+//! of which an argument gives the number, with questions and files on the way, on half as many random recipes, and on
+//! every byte of marks.
 
 #![deny(unsafe_code)]
 
@@ -12,11 +13,13 @@ mod borders;
 mod files;
 mod ideal;
 mod ideal_reader;
+mod ideal_writer;
 #[allow(unsafe_code)]
 mod library;
 mod openings;
 mod plain;
 mod plain_reader;
+mod plain_writer;
 mod program;
 mod races;
 mod random;

@@ -96,7 +96,7 @@ pub fn borrows_from_others(s: &Record) -> bool {
         .all(|(&imported, &defined)| !(imported && defined))
 }
 
-fn is_sound(s: &Record) -> bool {
+pub fn is_sound(s: &Record) -> bool {
     is_consistent(s) && is_acceptable(s) && s.areas.contains(&true) && is_valid(s) && borrows_from_others(s)
 }
 

@@ -1,5 +1,5 @@
-//! What is timed: the step, the recipe, the access question, the reader and the lowest mark, over the C interface and
-//! beside the two baselines.
+//! What is timed: the step, the recipe, the access question, the reader, the writer and the lowest mark, over the C
+//! interface and beside the two baselines.
 //!
 //! In the time is what a caller pays. The library gets the bytes of a record by pointer and length; the baselines get a
 //! state of their own. Nobody keeps anything between calls.
@@ -10,9 +10,12 @@ use crate::recipe::{refused, Call};
 use crate::record::{Record, RECORD_BYTES};
 use crate::rows::Rows;
 use crate::rules::{Bytes, MOST_STEPS};
+use crate::site_file::FILE_MOST;
 use crate::states::{farthest, States};
 use crate::timing::Race;
-use crate::{agree, area_lists, files, ideal, ideal_reader, library, plain, plain_reader, random};
+use crate::{
+    agree, area_lists, files, ideal, ideal_reader, ideal_writer, library, plain, plain_reader, plain_writer, random,
+};
 use chance::Chance;
 use std::hint::black_box;
 use std::rc::Rc;
@@ -22,6 +25,7 @@ pub fn all(s: &States) -> Vec<Race<'_>> {
     races
         .chain(questions(s))
         .chain(readings(s))
+        .chain(writings(s))
         .chain(area_lists())
         .collect()
 }
@@ -148,6 +152,24 @@ fn readings(s: &States) -> [Race<'_>; 3] {
         let by_library = move || library::read(black_box(&file), &mut state);
         let by_plain = move || plain_reader::read(black_box(&for_plain));
         let by_ideal = move || ideal_reader::read(black_box(&for_ideal));
+        Race::new(name, by_library, by_plain, by_ideal).limited()
+    })
+}
+
+/// From a state and its labels to the bytes of a file, in one buffer that is not cleared between calls.
+fn writings(s: &States) -> [Race<'_>; 3] {
+    let cases = [("largest", &s.largest), ("chain", &s.chain), ("small", &s.small)];
+    cases.map(|(name, s)| {
+        let labels: Rc<[u8]> = files::labels(&s.areas).into();
+        let length = agree::write(s, &labels, FILE_MOST);
+        assert_eq!(length, Ok(files::file(s).len()), "{name}: another length");
+        let name = format!("write {name} ({} bytes)", files::file(s).len());
+        let (record, rows) = (s.bytes(), Rows::of(s));
+        let [mut for_library, mut for_plain, mut for_ideal] = [[0; FILE_MOST]; 3];
+        let [plain_labels, ideal_labels] = [labels.clone(), labels.clone()];
+        let by_library = move || library::write(black_box(&record), black_box(&labels), &mut for_library);
+        let by_plain = move || plain_writer::write(black_box(s), black_box(&plain_labels), &mut for_plain);
+        let by_ideal = move || ideal_writer::write(black_box(&rows), black_box(&ideal_labels), &mut for_ideal);
         Race::new(name, by_library, by_plain, by_ideal).limited()
     })
 }

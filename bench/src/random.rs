@@ -2,6 +2,7 @@
 
 use crate::record::Record;
 use crate::rules::{Bytes, Place, Site};
+use crate::site_file::LABEL;
 use chance::Chance;
 
 /// How many of the first users, areas and objects are drawn from.
@@ -88,4 +89,18 @@ pub fn damaged_file(chance: &mut Chance, mut file: Vec<u8>) -> Vec<u8> {
         _ => file[at] = chance.below(64) as u8,
     }
     file
+}
+
+/// A label block with something wrong, or with a byte that happens to be as good.
+pub fn damaged_block(chance: &mut Chance, mut block: Vec<u8>) -> Vec<u8> {
+    let at = chance.below(block.len());
+    match chance.below(8) {
+        0 => block.truncate(at),
+        1 => block.push(chance.byte()),
+        2 => block.extend_from_within(..LABEL),
+        3 | 4 => block[at / LABEL * LABEL + chance.below(2)] = chance.below(34) as u8,
+        5 | 6 => block[at] = chance.below(34) as u8,
+        _ => block[at] = chance.byte(),
+    }
+    block
 }

@@ -1,11 +1,14 @@
-//! The bytes of a site file as document 01 has them, shared by the readers of both baselines: refusals 21 to 27, which
-//! no state decides.
+//! The bytes of a site file as document 01 has them: refusals 21 to 27, which no state decides and both baselines
+//! share, and the header as the ideal writer writes it.
 
 use crate::rules::{AREAS, OBJECTS, USERS};
 use std::array::from_fn;
 
 pub const HEADER: usize = 28;
 pub const LABEL: usize = 32;
+
+/// The most bytes that a file of a sound state has: no area imports what it defines, so it has 1,984 imports at most.
+pub const FILE_MOST: usize = HEADER + 2 * (1024 + 64 + 1024 + 1984 + 2048) + 32 * LABEL;
 
 const LIMITS: [usize; 6] = [1024, 64, 1024, 2048, 2048, 32];
 const SIZES: [usize; 6] = [2, 2, 2, 2, 2, LABEL];
@@ -27,14 +30,30 @@ pub fn tables(file: &[u8]) -> Result<Tables<'_>, u8> {
     let pairs: [&[Pair]; 5] = from_fn(|k| parts[k].as_chunks().0);
     let labels: &[Label] = parts[5].as_chunks().0;
     let pairs_fit = (0..5).all(|k| pairs_fit(pairs[k], FIRSTS[k] as u8));
-    if !(pairs_fit && labels.iter().all(label_fits)) {
+    if !(pairs_fit && labels_fit(labels)) {
         return Err(26);
     }
-    let labels_ascend = labels.windows(2).all(|two| two[0][0] < two[1][0]);
-    if !(labels_ascend && pairs.iter().all(|table| pairs_ascend(table))) {
+    if !(labels_ascend(labels) && pairs.iter().all(|table| pairs_ascend(table))) {
         return Err(27);
     }
     Ok(Tables { pairs, labels })
+}
+
+/// The header of a file with so many pairs in each table, and so many bytes of labels.
+pub fn write_header(header: &mut [u8], counts: [usize; 5], labels: usize) {
+    let [a, b, c, d, e] = counts;
+    let counts = [a, b, c, d, e, labels / LABEL];
+    let mut fields = [1; HEADER / 2];
+    let mut at = HEADER;
+    for k in 0..6 {
+        fields[2 + k] = counts[k];
+        fields[8 + k] = at;
+        at += counts[k] * SIZES[k];
+    }
+    fields[1] = at;
+    for (bytes, field) in header.as_chunks_mut().0.iter_mut().zip(fields) {
+        *bytes = (field as u16).to_le_bytes();
+    }
 }
 
 /// The six tables as parts of the file, or the refusal from 21 to 25.
@@ -85,6 +104,14 @@ fn pairs_ascend(pairs: &[Pair]) -> bool {
         .iter()
         .zip(pairs)
         .fold(true, |ascend, (next, pair)| ascend & (number(pair) < number(next)))
+}
+
+pub fn labels_fit(labels: &[Label]) -> bool {
+    labels.iter().all(label_fits)
+}
+
+pub fn labels_ascend(labels: &[Label]) -> bool {
+    labels.windows(2).all(|two| two[0][0] < two[1][0])
 }
 
 fn label_fits(label: &Label) -> bool {

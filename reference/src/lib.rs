@@ -1,4 +1,4 @@
-//! The site access state machine of document 01, with points 1, 2, 4, 7 and 11 of document 02, written a second time:
+//! The site access state machine of document 01, with points 1, 2, 3, 4, 7 and 11 of document 02, written a second time:
 //! sets of pairs instead of rows of bits.
 //!
 //! Each module follows one section of document 01 or one point of document 02, and each function quotes the sentence that it stands
@@ -9,6 +9,7 @@
 
 mod access;
 mod instructions;
+mod labels;
 mod lending;
 mod old_record;
 mod program;
@@ -21,8 +22,10 @@ mod small;
 mod soundness;
 mod state;
 mod taking_back;
+mod writing;
 
 pub use instructions::{run, step, step_record};
+pub use labels::Labels;
 pub use lending::{lending_guarantee, lending_guarantee_of_commands};
 pub use old_record::{eight_to_a_byte, from_old_record, to_old_record, OLD_RECORD_BYTES};
 pub use program::transcript;
@@ -31,7 +34,8 @@ pub use recipes::{counted, misformed, order_of_recipe_checks, recipe, recipe_ins
 pub use recipes::{Call, Command, Misformed, RecipeAnswer};
 pub use record::{from_record, to_record, RECORD_BYTES};
 pub use refusals::order_of_checks;
-pub use site_file::{label, read_file, write_file, Labels};
+pub use site_file::{label, label_block, read_file, write_file, MOST_FILE_BYTES};
 pub use small::small_states;
 pub use state::State;
 pub use taking_back::{matching_remove, taken_back};
+pub use writing::{bad_block, write, write_record, BadBlock};

@@ -1,12 +1,11 @@
-//! "The site file": reader, writer and label finder.
+//! "The site file": the reader, the file of a state and its labels, and the label finder.
 
 use crate::access::is_valid;
+use crate::labels::{a_labelled_area_is_unlisted, labels_are_out_of_range, labels_do_not_ascend};
+use crate::labels::{label_entry, labels_of, Labels, LABEL_BYTES};
 use crate::soundness::{has_own_import, is_consistent};
 use crate::state::{firsts, seconds, State};
-use std::collections::{BTreeMap, BTreeSet};
-
-/// The text of each area that has a label.
-pub type Labels = BTreeMap<u8, Vec<u8>>;
+use std::collections::BTreeSet;
 
 /// "A header of 28 bytes, all fields 16 bits, low byte first: version (1), file length, six counts, six offsets"
 const HEADER_BYTES: usize = 28;
@@ -23,7 +22,13 @@ const LABELS: usize = 5;
 const MOST: [usize; 6] = [1024, 64, 1024, 2048, 2048, 32];
 
 /// "Pairs are two bytes as written above." "A label entry has 32 bytes".
-const ENTRY_BYTES: [usize; 6] = [2, 2, 2, 2, 2, 32];
+const ENTRY_BYTES: [usize; 6] = [2, 2, 2, 2, 2, LABEL_BYTES];
+
+/// The most bytes that an accepted file can have, and that the writer writes: 28 for the header, then owners, definitions,
+/// structure, imports, exports and labels, 28 + 2 * 1,024 + 2 * 64 + 2 * 1,024 + 2 * 1,984 + 2 * 2,048 + 32 * 32 = 13,340.
+/// Each count is at its limit but that of the imports, which lack one of each object. Document 02, point 4: "no area may
+/// import an object that it defines".
+pub const MOST_FILE_BYTES: usize = 28 + 2 * 1024 + 2 * 64 + 2 * 1024 + 2 * 1984 + 2 * 2048 + 32 * 32;
 
 /// For each table of pairs, how many numbers its first member can be: users, objects, areas, objects, objects.
 const FIRST_LIMITS: [u8; 5] = [State::USERS, State::OBJECTS, State::AREAS, State::OBJECTS, State::OBJECTS];
@@ -49,7 +54,7 @@ const ORDER_OF_CHECKS: [(u8, Condition); 10] = [
 pub fn read_file(file: &[u8]) -> Result<(State, Labels), u8> {
     match ORDER_OF_CHECKS.iter().find(|(_, holds)| holds(file)) {
         Some(&(number, _)) => Err(number),
-        None => Ok((state_of(file), labels_of(file))),
+        None => Ok((state_of(file), labels_of(table_bytes(file, LABELS)))),
     }
 }
 
@@ -68,11 +73,15 @@ fn offset(file: &[u8], table: usize) -> usize {
     field(file, 8 + table)
 }
 
-/// The entries of a table, in the file's order; for files that 21 to 25 let pass.
-fn entries(file: &[u8], table: usize) -> impl Iterator<Item = &[u8]> {
+/// The bytes of a table; for files that 21 to 25 let pass.
+fn table_bytes(file: &[u8], table: usize) -> &[u8] {
     let start = offset(file, table);
-    let bytes = &file[start..start + count(file, table) * ENTRY_BYTES[table]];
-    bytes.chunks_exact(ENTRY_BYTES[table])
+    &file[start..start + count(file, table) * ENTRY_BYTES[table]]
+}
+
+/// The entries of a table, in the file's order.
+fn entries(file: &[u8], table: usize) -> impl Iterator<Item = &[u8]> {
+    table_bytes(file, table).chunks_exact(ENTRY_BYTES[table])
 }
 
 /// The entries of a table of pairs: "Pairs are two bytes as written above."
@@ -94,13 +103,6 @@ fn state_of(file: &[u8]) -> State {
         imports: relation(IMPORTS),
         exports: relation(EXPORTS),
     }
-}
-
-/// "A label entry has 32 bytes: area, length 1 to 30, the text (bytes 32 to 126), then zeros."
-fn labels_of(file: &[u8]) -> Labels {
-    entries(file, LABELS)
-        .map(|entry| (entry[0], entry[2..2 + usize::from(entry[1])].to_vec()))
-        .collect()
 }
 
 /// 21: "under 28 bytes"
@@ -139,31 +141,20 @@ fn table_stands_elsewhere(file: &[u8]) -> bool {
 /// 26: "a number, length, text byte or filler byte outside its range"
 fn byte_is_out_of_range(file: &[u8]) -> bool {
     let pair_is_out = |table: usize| pairs(file, table).any(|(first, second)| first >= FIRST_LIMITS[table] || second >= State::AREAS);
-    (OWNERS..=EXPORTS).any(pair_is_out) || entries(file, LABELS).any(label_is_out_of_range)
-}
-
-/// "A label entry has 32 bytes: area, length 1 to 30, the text (bytes 32 to 126), then zeros."
-fn label_is_out_of_range(entry: &[u8]) -> bool {
-    let (area, length) = (entry[0], entry[1]);
-    if area >= State::AREAS || !(1..=30).contains(&length) {
-        return true;
-    }
-    let (text, filler) = entry[2..].split_at(usize::from(length));
-    !text.iter().all(|byte| (32..=126).contains(byte)) || !filler.iter().all(|&byte| byte == 0)
+    (OWNERS..=EXPORTS).any(pair_is_out) || labels_are_out_of_range(table_bytes(file, LABELS))
 }
 
 /// 27: "a table not strictly ascending by first byte, then second (labels by area)"
 fn table_is_not_ascending(file: &[u8]) -> bool {
     let pairs_ascend = (OWNERS..=EXPORTS).all(|table| pairs(file, table).is_sorted_by(|one, next| one < next));
-    let labels_ascend = entries(file, LABELS).is_sorted_by(|one, next| one[0] < next[0]);
-    !(pairs_ascend && labels_ascend)
+    !pairs_ascend || labels_do_not_ascend(table_bytes(file, LABELS))
 }
 
 /// 28: "no owner pair; an unlisted area or object named; an object defined twice"
 fn file_is_inconsistent(file: &[u8]) -> bool {
     let state = state_of(file);
     let no_owner_pair = state.owners.is_empty();
-    let label_of_unlisted_area = entries(file, LABELS).any(|entry| !state.areas.contains(&entry[0]));
+    let label_of_unlisted_area = a_labelled_area_is_unlisted(table_bytes(file, LABELS), &state.areas);
     let defined_twice = state.definitions.len() != state.objects.len();
     no_owner_pair || !is_consistent(&state) || label_of_unlisted_area || defined_twice
 }
@@ -204,14 +195,6 @@ fn tables_of(state: &State, labels: &Labels) -> [Vec<u8>; 6] {
     ]
 }
 
-/// "A label entry has 32 bytes: area, length 1 to 30, the text (bytes 32 to 126), then zeros."
-fn label_entry(area: u8, text: &[u8]) -> Vec<u8> {
-    let mut entry = vec![area, text.len() as u8];
-    entry.extend(text);
-    entry.resize(ENTRY_BYTES[LABELS], 0);
-    entry
-}
-
 /// "The label finder takes file bytes and an area number. It hands back the label's text as a part of the caller's file": the part's
 /// offset and length. "For a refused file, or an area with no label (any number above 31 too), it is the part of length 0 at the
 /// file's front."
@@ -223,5 +206,14 @@ pub fn label(file: &[u8], area: u32) -> (usize, usize) {
     match found {
         Some((place, entry)) => (offset(file, LABELS) + place * ENTRY_BYTES[LABELS] + 2, usize::from(entry[1])),
         None => (0, 0),
+    }
+}
+
+/// The label block of an accepted file, as the writer takes it: its offset and its length in bytes; for a file with no label the
+/// length is 0, and "An empty table has the offset where it would stand." (0, 0) for a refused file.
+pub fn label_block(file: &[u8]) -> (usize, usize) {
+    match read_file(file) {
+        Ok(_) => (offset(file, LABELS), count(file, LABELS) * LABEL_BYTES),
+        Err(_) => (0, 0),
     }
 }

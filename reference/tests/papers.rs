@@ -1,5 +1,5 @@
-//! The examples of document 01, points 1, 2, 4, 7 and 11 of document 02, and the readings 1 to 15 and 17 of
-//! docs/READINGS.md.
+//! The examples of document 01, points 1, 2, 3, 4, 7 and 11 of document 02, and the readings 1 to 15, 17 and 18
+//! of docs/READINGS.md.
 
 use reference::*;
 use std::collections::{BTreeMap, BTreeSet};
@@ -3473,6 +3473,704 @@ fn point_1_lending_guarantee_over_commands_in_disorder() {
         instructions > 200 && not_heard > 200,
         "{instructions} of accepted recipes, {not_heard} refused recipes"
     );
+}
+
+// Document 02, point 3: writing the site file
+
+/// A buffer of the length in which no two neighbours are equal; with salt 0 and 171 each of its bytes is another.
+fn lent_buffer(length: usize, salt: usize) -> Vec<u8> {
+    (0..length).map(|at| (3 * at + salt) as u8).collect()
+}
+
+/// What the writer answers and leaves in the buffer, on the state and on its record.
+fn written(state: &State, block: &[u8], buffer: &[u8]) -> (Result<usize, u8>, Vec<u8>) {
+    let (mut of_state, mut of_record) = (buffer.to_vec(), buffer.to_vec());
+    let answer = write(state, block, &mut of_state);
+    assert_eq!(write_record(&to_record(state), block, &mut of_record), answer);
+    assert_eq!(of_state, of_record);
+    (answer, of_state)
+}
+
+/// Asserts the number for a buffer of the length, and that no byte of it changes.
+fn write_refused(state: &State, block: &[u8], length: usize, number: u8) {
+    for buffer in [lent_buffer(length, 0), lent_buffer(length, 171)] {
+        assert_eq!(
+            written(state, block, &buffer),
+            (Err(number), buffer),
+            "{block:?} into {length} bytes"
+        );
+    }
+}
+
+/// Asserts that the block is 30 in the ways given, into a buffer of any length.
+fn is_30(state: &State, block: &[u8], ways: &[BadBlock]) {
+    assert_eq!(bad_block(state, block), ways, "{block:?}");
+    for length in [0, 29, 30, 13_340] {
+        write_refused(state, block, length, 30);
+    }
+}
+
+/// Asserts that the file comes into a buffer of its length or more, behind it all stays, and that a shorter buffer is 31.
+fn is_written(state: &State, block: &[u8], file: &[u8]) {
+    assert_eq!(bad_block(state, block), []);
+    for (more, salt) in [(0, 0), (0, 171), (1, 0), (1, 171), (300, 0), (300, 171)] {
+        let buffer = lent_buffer(file.len() + more, salt);
+        let tail = buffer[file.len()..].to_vec();
+        assert_eq!(written(state, block, &buffer), (Ok(file.len()), [file.to_vec(), tail].concat()));
+    }
+    for shorter in [file.len() - 1, file.len() - 2, file.len() / 2, 28, 1, 0] {
+        write_refused(state, block, shorter, 31);
+    }
+}
+
+/// Areas 0 and 1 of user 0 with the labels HALL and LOOP 3, byte by byte.
+fn two_labels_file() -> Vec<u8> {
+    let version_and_length: &[u8] = &[1, 0, 96, 0];
+    let counts = &[2, 0, 0, 0, 0, 0, 0, 0, 0, 0, 2, 0];
+    let offsets = &[28, 0, 32, 0, 32, 0, 32, 0, 32, 0, 32, 0];
+    let owners = &[0, 0, 0, 1];
+    let hall = &[
+        0, 4, 72, 65, 76, 76, 0, 0, 0, 0, 0, 0, 0, 0, 0, 0, 0, 0, 0, 0, 0, 0, 0, 0, 0, 0, 0, 0, 0, 0, 0, 0,
+    ];
+    let loop_3 = &[
+        1, 6, 76, 79, 79, 80, 32, 51, 0, 0, 0, 0, 0, 0, 0, 0, 0, 0, 0, 0, 0, 0, 0, 0, 0, 0, 0, 0, 0, 0, 0, 0,
+    ];
+    [version_and_length, counts, offsets, owners, hall, loop_3].concat()
+}
+
+/// The state after line 8 of the session with the label LOOP for area 2, byte by byte.
+fn session_file() -> Vec<u8> {
+    let version_and_length: &[u8] = &[1, 0, 76, 0];
+    let counts = &[3, 0, 1, 0, 2, 0, 1, 0, 1, 0, 1, 0];
+    let offsets = &[28, 0, 34, 0, 36, 0, 40, 0, 42, 0, 44, 0];
+    let pairs = &[0, 0, 0, 1, 0, 2, 9, 1, 0, 2, 1, 2, 9, 0, 9, 1];
+    let label = &[
+        2, 4, 76, 79, 79, 80, 0, 0, 0, 0, 0, 0, 0, 0, 0, 0, 0, 0, 0, 0, 0, 0, 0, 0, 0, 0, 0, 0, 0, 0, 0, 0,
+    ];
+    [version_and_length, counts, offsets, pairs, label].concat()
+}
+
+/// Areas 0 to 31 of user 0.
+fn row_of_areas() -> State {
+    let list: Vec<[u8; 4]> = (1..32).map(|area| [1, 0, area, 0]).collect();
+    from_f(&list)
+}
+
+/// A label of 30 bytes for each area from 0 to 31: capital A for area 0, B for area 1 and so on.
+fn labels_of_32() -> Vec<[u8; 32]> {
+    (0..32).map(|area| entry(area, 30, &[b'A' + area; 30])).collect()
+}
+
+/// The file of `row_of_areas` and `labels_of_32`: 28 + 64 + 1,024 = 1,116 bytes, which is 4 * 256 + 92. Header by hand.
+fn row_file() -> Vec<u8> {
+    let header: &[u8] = &[
+        1, 0, 92, 4, 32, 0, 0, 0, 0, 0, 0, 0, 0, 0, 32, 0, 28, 0, 92, 0, 92, 0, 92, 0, 92, 0, 92, 0,
+    ];
+    let owners: Vec<u8> = (0..32).flat_map(|area| [0, area]).collect();
+    [header, &owners, &labels_of_32().concat()].concat()
+}
+
+/// Everything that can stand together, as in `reading_8_largest_accepted_file_has_13340_bytes`.
+fn fullest() -> State {
+    let mut full = everything();
+    full.imports.retain(|&(object, area)| area != object % 32);
+    full
+}
+
+/// The file of `fullest` and `labels_of_32`. Header by hand: the length 13,340 is 52 * 256 + 28; 1,984 imports are 7 * 256
+/// + 192; the tables stand at 28, 2,076, 2,204, 4,252, 8,220 and 12,316.
+fn fullest_file() -> Vec<u8> {
+    let header: &[u8] = &[
+        1, 0, 28, 52, 0, 4, 64, 0, 0, 4, 192, 7, 0, 8, 32, 0, 28, 0, 28, 8, 156, 8, 156, 16, 28, 32, 28, 48,
+    ];
+    let square: Vec<u8> = (0..32).flat_map(|first| (0..32).flat_map(move |area| [first, area])).collect();
+    let definitions: Vec<u8> = (0..64).flat_map(|object| [object, object % 32]).collect();
+    let areas_but = |own: u8| (0..32).filter(move |&area| area != own);
+    let imports: Vec<u8> = (0..64)
+        .flat_map(|object| areas_but(object % 32).flat_map(move |area| [object, area]))
+        .collect();
+    let exports: Vec<u8> = (0..64).flat_map(|object| (0..32).flat_map(move |area| [object, area])).collect();
+    let labels = labels_of_32().concat();
+    [header, &square, &definitions, &square, &imports, &exports, &labels].concat()
+}
+
+/// A state, a label block, and the file of both.
+type Written = (State, Vec<u8>, Vec<u8>);
+
+/// The states, blocks and files by hand.
+fn files_by_hand() -> [Written; 5] {
+    let two = [entry(0, 4, b"HALL"), entry(1, 6, b"LOOP 3")].concat();
+    let session = run(&State::founding(), &SESSION[..8]);
+    [
+        (State::founding(), vec![], FOUNDING_FILE.to_vec()),
+        (from_f(&[[1, 0, 1, 0]]), two, two_labels_file()),
+        (session, entry(2, 4, b"LOOP").to_vec(), session_file()),
+        (row_of_areas(), labels_of_32().concat(), row_file()),
+        (fullest(), labels_of_32().concat(), fullest_file()),
+    ]
+}
+
+/// Document 02, point 3: "from a sound state and a block of 32-byte label entries into a lent buffer, with the length as
+/// the answer"
+#[test]
+fn point_3_files_by_hand() {
+    let lengths = files_by_hand().map(|(_, _, file)| file.len());
+    assert_eq!(lengths, [30, 96, 76, 1116, 13_340]);
+    for (state, block, file) in files_by_hand() {
+        assert!(state.is_sound());
+        is_written(&state, &block, &file);
+    }
+}
+
+/// Document 02, point 3: "Reading what it wrote yields the same state and labels."
+#[test]
+fn point_3_reading_what_was_written() {
+    let of_32: Labels = (0..32).map(|area| (area, vec![b'A' + area; 30])).collect();
+    let labels = [
+        BTreeMap::new(),
+        BTreeMap::from([(0, b"HALL".to_vec()), (1, b"LOOP 3".to_vec())]),
+        BTreeMap::from([(2, b"LOOP".to_vec())]),
+        of_32.clone(),
+        of_32,
+    ];
+    for ((state, block, file), labels) in files_by_hand().into_iter().zip(labels) {
+        let (answer, buffer) = written(&state, &block, &lent_buffer(20_000, 0));
+        assert_eq!(answer, Ok(file.len()));
+        assert_eq!(read_file(&buffer[..file.len()]), Ok((state.clone(), labels.clone())));
+        assert_eq!(write_file(&state, &labels), file);
+    }
+}
+
+/// Asserts that the state and the label block of an accepted file give the file again, and hands the block back.
+fn writes_again(file: &[u8]) -> &[u8] {
+    let (state, _) = read_file(file).expect("an accepted file");
+    let (offset, length) = label_block(file);
+    let block = &file[offset..offset + length];
+    is_written(&state, block, file);
+    block
+}
+
+/// Document 02, point 3: "Writing an accepted file's state and labels yields that file again."
+#[test]
+fn point_3_writing_what_was_read() {
+    for (_, block, file) in files_by_hand() {
+        assert_eq!(writes_again(&file), block);
+    }
+    let (two, label) = (&[[0, 0], [0, 1]], &[entry(1, 1, b"~")]);
+    for file in [
+        file(&[[31, 31]], &[[63, 31]], &[[31, 31]], NO, &[[63, 31]], &[entry(31, 1, b" ")]),
+        file(two, &[[9, 0]], &[[1, 0]], &[[9, 1]], NO, label),
+        file(&[[0, 0], [0, 1], [4, 0]], NO, &[[0, 0], [0, 1], [1, 0]], NO, NO, label),
+        site(&[[1, 0], [2, 1], [3, 2]], &of_9(1..=3), NO, &[]),
+    ] {
+        writes_again(&file);
+    }
+}
+
+/// The offset and the length of the label block: the offset field and 32 times the count. (0, 0) for a refused file.
+#[test]
+fn point_3_label_block_of_a_file() {
+    let blocks = files_by_hand().map(|(_, _, file)| label_block(&file));
+    assert_eq!(blocks, [(30, 0), (32, 64), (44, 32), (92, 1024), (12_316, 1024)]);
+    let two = two_labels_file();
+    for at in [0, 2, 14, 26, 31, 33, 95] {
+        let mut refused = two.clone();
+        refused[at] = 40;
+        assert!(read_file(&refused).is_err());
+        assert_eq!(label_block(&refused), (0, 0), "byte {at}");
+    }
+    let lacks_access = file(&[[0, 0], [0, 1]], &[[9, 0]], NO, &[[9, 1]], NO, &[entry(0, 1, b"x")]);
+    let unlisted = file(&[[0, 0]], NO, NO, NO, NO, &[entry(5, 1, b"x")]);
+    for refused in [&[][..], &two[..95], &two[..20], &lacks_access, &unlisted] {
+        assert_eq!(label_block(refused), (0, 0));
+    }
+}
+
+/// The longest file: no sound state has more pairs of any relation, and no block more labels.
+#[test]
+fn point_3_most_bytes() {
+    assert_eq!(MOST_FILE_BYTES, 13_340);
+    let (full, block) = (fullest(), labels_of_32().concat());
+    write_refused(&full, &block, 13_339, 31);
+    let (answer, _) = written(&full, &block, &lent_buffer(13_340, 0));
+    assert_eq!(answer, Ok(13_340));
+    let one_more = everything();
+    write_refused(&one_more, &block, 20_000, 12);
+    write_refused(&full, &[block, entry(31, 1, b"x").to_vec()].concat(), 20_000, 30);
+}
+
+/// Document 02, point 3: "31 for a buffer shorter than the file"; one of just its length will do, and none is too long.
+#[test]
+fn point_3_every_length_of_a_buffer() {
+    let two = [entry(0, 4, b"HALL"), entry(1, 6, b"LOOP 3")].concat();
+    let (f, areas) = (State::founding(), from_f(&[[1, 0, 1, 0]]));
+    for length in 0..30 {
+        write_refused(&f, &[], length, 31);
+    }
+    for length in 0..96 {
+        write_refused(&areas, &two, length, 31);
+    }
+    for length in (30..300).chain([65_535, 65_536, 65_537, 65_536 + 29, 65_536 + 30, 131_072]) {
+        let buffer = lent_buffer(length, 0);
+        let left = [&FOUNDING_FILE, &buffer[30..]].concat();
+        assert_eq!(written(&f, &[], &buffer), (Ok(30), left));
+    }
+    for length in (96..300).chain([65_536, 65_536 + 95]) {
+        let buffer = lent_buffer(length, 0);
+        let left = [two_labels_file(), buffer[96..].to_vec()].concat();
+        assert_eq!(written(&areas, &two, &buffer), (Ok(96), left));
+    }
+}
+
+/// Document 02, point 3: "Bytes past the length keep their content", also those of a longer file that stood there.
+#[test]
+fn point_3_writing_over_another_file() {
+    let full = fullest_file();
+    let (answer, left) = written(&State::founding(), &[], &full);
+    assert_eq!(answer, Ok(30));
+    assert_eq!(left[..30], FOUNDING_FILE);
+    assert_eq!(left[30..], full[30..]);
+    let founding_in_front = [FOUNDING_FILE.to_vec(), lent_buffer(66, 0)].concat();
+    let two = [entry(0, 4, b"HALL"), entry(1, 6, b"LOOP 3")].concat();
+    let (answer, left) = written(&from_f(&[[1, 0, 1, 0]]), &two, &founding_in_front);
+    assert_eq!((answer, left), (Ok(96), two_labels_file()));
+    let (answer, left) = written(&from_f(&[[1, 0, 1, 0]]), &two, &FOUNDING_FILE);
+    assert_eq!((answer, left), (Err(31), FOUNDING_FILE.to_vec()));
+}
+
+/// States that are unsound: an area with no owner, none at all, an own import, an import at 9 steps, an undefined object.
+fn unsound_states() -> [State; 5] {
+    let f = State::founding();
+    let mut no_owner = f.clone();
+    no_owner.areas.insert(3);
+    let nothing = State {
+        users: BTreeSet::new(),
+        areas: BTreeSet::new(),
+        owners: BTreeSet::new(),
+        ..f.clone()
+    };
+    let own_import = with_import(&from_f(&[[7, 0, 0, 9]]), 0);
+    let nine_steps = with_import(&from_f(&row_by_imports(8)), 9);
+    let mut undefined = f;
+    undefined.objects.insert(9);
+    [no_owner, nothing, own_import, nine_steps, undefined]
+}
+
+/// Document 02, point 3: "Refusals are 12, ...": the state is unsound, or the bytes are no record.
+#[test]
+fn point_3_unsound_states_and_no_records_are_12() {
+    for state in unsound_states() {
+        assert!(!state.is_sound());
+        write_refused(&state, &[], 13_340, 12);
+    }
+    for bad in no_records() {
+        let mut buffer = lent_buffer(13_340, 0);
+        assert_eq!(write_record(&bad, &[], &mut buffer), Err(12));
+        assert_eq!(buffer, lent_buffer(13_340, 0));
+    }
+    for round in 0..256 {
+        let record: Vec<u8> = (0..1040_usize).map(|byte| (byte * byte / 3 + byte * round + round) as u8).collect();
+        let mut buffer = lent_buffer(13_340, 171);
+        assert_eq!(write_record(&record, &[], &mut buffer), Err(12));
+        assert_eq!(buffer, lent_buffer(13_340, 171));
+    }
+    let mut user_32 = State::founding();
+    user_32.users.insert(32);
+    user_32.owners.insert((32, 0));
+    assert_eq!(write(&user_32, &[], &mut [0; 100]), Err(12));
+}
+
+/// Document 02, point 3: "Refusals are 12, then 30 ..., then 31": each two together, and all three.
+#[test]
+fn point_3_order_of_refusals() {
+    let (good, partial, out) = (entry(0, 1, b"x").to_vec(), vec![0; 31], entry(32, 1, b"x").to_vec());
+    let (backwards, unlisted) = ([entry(1, 1, b"x"), entry(0, 1, b"x")].concat(), entry(5, 1, b"x").to_vec());
+    for bad in [partial, out, backwards, unlisted] {
+        for state in unsound_states() {
+            write_refused(&state, &bad, 13_340, 12); // 12 and 30
+            write_refused(&state, &bad, 0, 12); // 12, 30 and 31
+            write_refused(&state, &good, 0, 12); // 12 and 31
+        }
+        for record in no_records() {
+            assert_eq!(write_record(&record, &bad, &mut [0; 100]), Err(12));
+            assert_eq!(write_record(&record, &bad, &mut []), Err(12));
+            assert_eq!(write_record(&record, &good, &mut []), Err(12));
+        }
+        write_refused(&State::founding(), &bad, 0, 30); // 30 and 31
+        write_refused(&State::founding(), &bad, 61, 30); // 30 and 31
+        write_refused(&State::founding(), &bad, 62, 30);
+    }
+    write_refused(&State::founding(), &good, 61, 31);
+    write_refused(&State::founding(), &good, 0, 31);
+    let (answer, left) = written(&State::founding(), &good, &[7; 62]);
+    assert_eq!((answer, left.len()), (Ok(62), 62));
+}
+
+/// Areas 0, 5 and 31 of user 0, as a state and as the owner table of its file.
+fn three_areas() -> State {
+    from_f(&[[1, 0, 5, 0], [1, 0, 31, 0]])
+}
+const THREE_AREAS: &[[u8; 2]] = &[[0, 0], [0, 5], [0, 31]];
+
+/// Labels for all three: the shortest, one that is not full, and the longest; with the least and the greatest text byte.
+fn three_labels() -> [[u8; 32]; 3] {
+    [entry(0, 1, b" "), entry(5, 6, b"LOOP ~"), entry(31, 30, &[b'~'; 30])]
+}
+
+/// Asserts that the entries are a good block at `three_areas`, and written.
+fn is_good(entries: &[[u8; 32]]) {
+    is_written(&three_areas(), &entries.concat(), &file(THREE_AREAS, NO, NO, NO, NO, entries));
+}
+
+/// Asserts that the entry alone is 30 in this one way at `three_areas`, and so behind a good entry, between two, and before
+/// one, where the areas allow it.
+fn is_bad(wrong: [u8; 32], way: BadBlock) {
+    let [first, _, last] = three_labels();
+    is_30(&three_areas(), &wrong, &[way]);
+    if wrong[0] > 0 {
+        is_30(&three_areas(), &[first, wrong].concat(), &[way]);
+    }
+    if wrong[0] < 31 {
+        is_30(&three_areas(), &[wrong, last].concat(), &[way]);
+    }
+    if (1..31).contains(&wrong[0]) {
+        is_30(&three_areas(), &[first, wrong, last].concat(), &[way]);
+    }
+}
+
+/// Labels of any areas that are listed, with none for the others; an empty block too.
+#[test]
+fn point_3_labels_of_some_areas() {
+    let [a, b, c] = three_labels();
+    let choices: [&[[u8; 32]]; 8] = [&[], &[a], &[b], &[c], &[a, b], &[a, c], &[b, c], &[a, b, c]];
+    for entries in choices {
+        is_good(entries);
+    }
+}
+
+/// Document 02, point 3: "a partial entry": any length that is no multiple of 32, whatever the bytes are.
+#[test]
+fn point_3_partial_entries() {
+    let (state, block) = (three_areas(), three_labels().concat());
+    for length in 0..=96 {
+        match length {
+            0 | 32 | 64 | 96 => assert_eq!(bad_block(&state, &block[..length]), []),
+            _ => is_30(&state, &block[..length], &[BadBlock::Partial]),
+        }
+    }
+    for behind in [&[0][..], &[1], &[255], &[0; 31], &[6, 1, 120], &[255; 31]] {
+        is_30(&state, behind, &[BadBlock::Partial]);
+        is_30(&state, &[&block[..32], behind].concat(), &[BadBlock::Partial]);
+        is_30(&state, &[&block, behind].concat(), &[BadBlock::Partial]);
+    }
+    is_30(&row_of_areas(), &[labels_of_32().concat(), vec![0]].concat(), &[BadBlock::Partial]);
+}
+
+/// 26, "a number": an area above 31. 28, "an unlisted area": any other but 0, 5 and 31.
+#[test]
+fn point_3_every_area() {
+    for area in 0..=u8::MAX {
+        let label = entry(area, 4, b"LOOP");
+        match area {
+            0 | 5 | 31 => is_good(&[label]),
+            1..=30 => is_bad(label, BadBlock::Unlisted),
+            32.. => is_bad(label, BadBlock::Area),
+        }
+    }
+    for area in 0..32 {
+        let label = entry(area, 1, b"x");
+        let owners: Vec<[u8; 2]> = (0..32).map(|area| [0, area]).collect();
+        is_written(&row_of_areas(), &label, &file(&owners, NO, NO, NO, NO, &[label]));
+    }
+}
+
+/// 26, "length": 1 to 30. Of another it is not asked what the text is, whether zeros or not.
+#[test]
+fn point_3_every_length_of_a_label() {
+    for length in 0..=u8::MAX {
+        match length {
+            1..=30 => is_good(&[entry(5, length, &vec![b'x'; usize::from(length)])]),
+            _ => {
+                is_bad(entry(5, length, b""), BadBlock::Length);
+                is_bad(entry(5, length, b"x"), BadBlock::Length);
+                is_bad(entry(5, length, &[b'x'; 30]), BadBlock::Length);
+                is_bad(entry(5, length, &[255; 30]), BadBlock::Length);
+            }
+        }
+    }
+}
+
+/// 26, "text byte": 32 to 126, at each of its places in texts of 1, 2, 15 and 30 bytes.
+#[test]
+fn point_3_every_text_byte() {
+    for length in [1, 2, 15, 30] {
+        for (place, byte) in (0..length).flat_map(|place| (0..=u8::MAX).map(move |byte| (place, byte))) {
+            let mut text = vec![b'x'; length];
+            text[place] = byte;
+            let label = entry(5, length as u8, &text);
+            match byte {
+                32..=126 => assert_eq!(bad_block(&three_areas(), &label), []),
+                _ => assert_eq!(bad_block(&three_areas(), &label), [BadBlock::Text], "{byte} at {place}"),
+            }
+        }
+    }
+    for length in [1, 30] {
+        for place in [0, length - 1] {
+            let with = |byte: u8| {
+                let mut text = vec![b'x'; length];
+                text[place] = byte;
+                entry(5, length as u8, &text)
+            };
+            is_good(&[with(32)]);
+            is_good(&[with(126)]);
+            for byte in [0, 10, 31, 127, 128, 160, 255] {
+                is_bad(with(byte), BadBlock::Text);
+            }
+        }
+    }
+}
+
+/// 26, "filler byte": each byte behind the text is 0. A label of 30 bytes has none.
+#[test]
+fn point_3_every_filler_byte() {
+    for length in 1..30_usize {
+        let good = entry(5, length as u8, &vec![b'x'; length]);
+        for place in 2 + length..32 {
+            let mut label = good;
+            for byte in [1, 32, b'x', 255] {
+                label[place] = byte;
+                assert_eq!(bad_block(&three_areas(), &label), [BadBlock::Filler], "{byte} at {place}");
+            }
+        }
+        for place in [2 + length, 31] {
+            let mut label = good;
+            label[place] = 1;
+            is_bad(label, BadBlock::Filler);
+        }
+    }
+    for byte in 1..=u8::MAX {
+        let mut label = entry(5, 1, b"x");
+        label[31] = byte;
+        is_bad(label, BadBlock::Filler);
+    }
+}
+
+/// 27: "strictly ascending ... (labels by area)": equal areas and descending ones, next to each other or not, and whatever
+/// their texts are.
+#[test]
+fn point_3_areas_ascend_strictly() {
+    let [a, b, c] = three_labels();
+    let other = entry(5, 1, b"x");
+    let orders: [&[[u8; 32]]; 11] = [
+        &[a, a],
+        &[b, b],
+        &[c, c],
+        &[b, other],
+        &[other, b],
+        &[b, a],
+        &[c, a],
+        &[c, b],
+        &[a, c, b],
+        &[b, a, c],
+        &[c, b, a],
+    ];
+    for entries in orders {
+        is_30(&three_areas(), &entries.concat(), &[BadBlock::Order]);
+    }
+    for (twice, labels) in [(0, [a, a, b, c]), (1, [a, b, b, c]), (2, [a, b, c, c])] {
+        is_30(&three_areas(), &labels.concat(), &[BadBlock::Order]);
+        let once: Vec<[u8; 32]> = labels[..twice].iter().chain(&labels[twice + 1..]).copied().collect();
+        is_good(&once);
+    }
+}
+
+/// No area but those from 0 to 31, and none twice: more than 32 entries are bad in one way or the other.
+#[test]
+fn point_3_more_than_32_entries() {
+    let (state, full) = (row_of_areas(), labels_of_32());
+    is_written(&state, &full.concat(), &row_file());
+    let and_one = |area: u8| [full.concat(), entry(area, 1, b"x").to_vec()].concat();
+    is_30(&state, &and_one(31), &[BadBlock::Order]);
+    is_30(&state, &and_one(0), &[BadBlock::Order]);
+    is_30(&state, &and_one(32), &[BadBlock::Area]);
+    is_30(&state, &and_one(255), &[BadBlock::Area]);
+    is_30(&state, &[entry(0, 1, b"x").to_vec(), full.concat()].concat(), &[BadBlock::Order]);
+    is_30(&state, &full.repeat(2).concat(), &[BadBlock::Order]);
+    for count in [33, 64, 255, 256, 257, 2047, 2048, 2049, 65_535, 65_536, 65_537] {
+        let block = entry(0, 1, b"x").repeat(count);
+        assert_eq!(bad_block(&state, &block), [BadBlock::Order]);
+        let mut buffer = lent_buffer(20_000, 0);
+        assert_eq!(write(&state, &block, &mut buffer), Err(30), "{count} entries");
+        assert_eq!(buffer, lent_buffer(20_000, 0));
+    }
+    let every_byte: Vec<u8> = (0..=u8::MAX).flat_map(|area| entry(area, 1, b"x")).collect();
+    is_30(&state, &every_byte, &[BadBlock::Area]);
+}
+
+/// Each way is told, whatever else is wrong, once and in the order of the sentence.
+#[test]
+fn point_3_ways_that_apply_together() {
+    use BadBlock::*;
+    let state = three_areas();
+    let [a, b, c] = three_labels();
+    let (text, filler) = (entry(5, 2, b"x"), entry(5, 1, b"xy"));
+    is_30(&state, &entry(32, 0, b""), &[Area, Length]);
+    is_30(&state, &[255; 32], &[Area, Length]);
+    is_30(&state, &[0; 32], &[Length]);
+    is_30(&state, &[1; 32], &[Text, Filler, Unlisted]);
+    is_30(&state, &[text, filler].concat(), &[Text, Filler, Order]);
+    is_30(&state, &[entry(32, 1, b"x"), c].concat(), &[Area, Order]);
+    is_30(&state, &[entry(6, 1, b"x"), b].concat(), &[Order, Unlisted]);
+    is_30(&state, &[entry(6, 1, b"x"), entry(6, 1, b"x")].concat(), &[Order, Unlisted]);
+    is_30(&state, &[entry(0, 1, &[127]), entry(0, 1, &[31])].concat(), &[Text, Order]);
+    is_30(&state, &[&[255; 32], &a[..], &[0]].concat(), &[Partial, Area, Length, Order]);
+    is_30(&state, &[&text[..], &filler, &[7; 5]].concat(), &[Partial, Text, Filler, Order]);
+    let worst = [entry(40, 31, b""), entry(6, 2, b"x"), filler];
+    is_30(
+        &state,
+        &[worst.concat(), vec![0]].concat(),
+        &[Partial, Area, Length, Text, Filler, Order, Unlisted],
+    );
+}
+
+/// The entries of a block of whole ones.
+fn entries_of(block: &[u8]) -> Vec<[u8; 32]> {
+    block.chunks(32).map(|entry| entry.try_into().expect("32 bytes")).collect()
+}
+
+/// The number of the reader for each way.
+fn number_of_way(way: BadBlock) -> u8 {
+    match way {
+        BadBlock::Area | BadBlock::Length | BadBlock::Text | BadBlock::Filler => 26,
+        BadBlock::Order => 27,
+        BadBlock::Unlisted => 28,
+        BadBlock::Partial => panic!("no file has a partial entry"),
+    }
+}
+
+/// Document 02, point 3: "breaks the label conditions of 26, 27 or 28": what the reader says of the file that the block would
+/// give. Each byte of three entries in turn.
+#[test]
+fn point_3_every_byte_of_a_block() {
+    let state = three_areas();
+    let good = three_labels().concat();
+    let mut bad = 0;
+    for (at, byte) in (0..96).flat_map(|at| (0..=u8::MAX).map(move |byte| (at, byte))) {
+        let mut block = good.clone();
+        block[at] = byte;
+        let whole = file(THREE_AREAS, NO, NO, NO, NO, &entries_of(&block));
+        let ways = bad_block(&state, &block);
+        let (answer, left) = written(&state, &block, &lent_buffer(130, 0));
+        match read_file(&whole) {
+            Ok(_) => assert_eq!((answer, &left[..], &ways[..]), (Ok(130), &whole[..], &[][..])),
+            Err(number) => {
+                assert_eq!((answer, left), (Err(30), lent_buffer(130, 0)));
+                assert_eq!(ways.into_iter().map(number_of_way).min(), Some(number));
+                bad += 1;
+            }
+        }
+    }
+    // Areas: 255 other bytes for the first and the second, and for the third. Lengths: 255 each. Texts: 161 of 256 for each
+    // of 1 + 6 + 30 bytes. Fillers: 255 for each of 29 + 24.
+    assert_eq!(bad, 3 * 255 + 3 * 255 + 161 * 37 + 255 * 53);
+}
+
+/// Document 02, point 3, at each small state: each choice of labels for areas 0 and 1 is written exactly if their areas are
+/// listed, reading gives state and labels, and writing what was read gives the file.
+#[test]
+fn point_3_at_every_small_state() {
+    let (zero, one) = (entry(0, 3, b"TWO"), entry(1, 1, b"1"));
+    let choices: [&[[u8; 32]]; 4] = [&[], &[zero], &[one], &[zero, one]];
+    let mut files = BTreeSet::new();
+    for (state, entries) in small_states().iter().flat_map(|state| choices.map(|entries| (state, entries))) {
+        let block = entries.concat();
+        if entries.iter().all(|entry| state.areas.contains(&entry[0])) {
+            let (answer, buffer) = written(state, &block, &lent_buffer(200, 0));
+            let length = answer.expect("written");
+            let labels: Labels = entries
+                .iter()
+                .map(|entry| (entry[0], entry[2..2 + usize::from(entry[1])].to_vec()))
+                .collect();
+            assert_eq!(read_file(&buffer[..length]), Ok((state.clone(), labels)));
+            assert_eq!(buffer[length..], lent_buffer(200, 0)[length..]);
+            assert_eq!(writes_again(&buffer[..length]), block);
+            files.insert(buffer[..length].to_vec());
+        } else {
+            is_30(state, &block, &[BadBlock::Unlisted]);
+        }
+    }
+    assert_eq!(files.len(), 36 * 2 + 1584 * 4); // `small_states_are_1620`: 36 have one area, 1,584 have two
+}
+
+/// A label block at the state: labels of some listed areas, and in three of four something wrong with it.
+fn often_bad_block(state: &State, bytes: &mut impl Iterator<Item = [u8; 4]>) -> Vec<u8> {
+    let mut entries = Vec::new();
+    for &area in &state.areas {
+        let [pick, length, text, _] = bytes.next().expect("endless");
+        if pick % 2 == 0 {
+            let length = 1 + length % 30;
+            entries.push(entry(area, length, &vec![32 + text % 95; usize::from(length)]));
+        }
+    }
+    let [kind, which, place, byte] = bytes.next().expect("endless");
+    if !entries.is_empty() && kind % 4 != 0 {
+        let which = usize::from(which) % entries.len();
+        let text = usize::from(entries[which][1]);
+        match kind / 4 % 7 {
+            0 => entries[which][0] = 32 + byte % 224,
+            1 => entries[which][1] = if place % 2 == 0 { 0 } else { 31 + byte % 225 },
+            2 => entries[which][2 + usize::from(place) % text] = 127 + byte % 129,
+            3 => entries[which][31] = byte,
+            4 => entries.insert(which, entries[usize::from(place) % entries.len()]),
+            5 => entries[which][0] = byte % 32,
+            _ => return [entries.concat(), vec![byte; 1 + usize::from(place) % 31]].concat(),
+        }
+    }
+    entries.concat()
+}
+
+/// A file that has no label, with a block of whole entries as its label table, whatever they hold.
+fn with_block(file: &[u8], block: &[u8]) -> Vec<u8> {
+    let mut bytes = [file, block].concat();
+    let (length, count) = (bytes.len() as u16, (block.len() / 32) as u16);
+    bytes[2..4].copy_from_slice(&length.to_le_bytes());
+    bytes[14..16].copy_from_slice(&count.to_le_bytes());
+    bytes
+}
+
+/// Document 02, point 3, over blocks in disorder at reached states: 30 exactly for a partial entry and where the reader
+/// refuses the file with that block. Each way comes alone.
+#[test]
+fn point_3_blocks_in_disorder() {
+    let mut bytes = disorder();
+    let mut alone: BTreeMap<Option<BadBlock>, u32> = BTreeMap::new();
+    let mut state = from_f(FOUR_AREAS);
+    for four in disorder().take(4000) {
+        state = run(&state, &[often_own_import(&state, four)]);
+        let block = often_bad_block(&state, &mut bytes);
+        let ways = bad_block(&state, &block);
+        let buffer = lent_buffer(13_340, 0);
+        let (answer, left) = written(&state, &block, &buffer);
+        if ways.is_empty() {
+            let length = answer.expect("written");
+            assert_eq!(left[length..], buffer[length..]);
+            let (offset, block_length) = label_block(&left[..length]);
+            assert_eq!((&left[offset..length], block_length), (&block[..], block.len()));
+            assert_eq!(read_file(&left[..length]).expect("read").0, state);
+            write_refused(&state, &block, length - 1, 31);
+        } else {
+            assert_eq!((answer, left), (Err(30), buffer));
+        }
+        if !ways.contains(&BadBlock::Partial) {
+            let whole = with_block(&write_file(&state, &BTreeMap::new()), &block);
+            let number = ways.iter().map(|&way| number_of_way(way)).min();
+            assert_eq!(read_file(&whole).err(), number);
+        }
+        if let [] | [_] = ways[..] {
+            *alone.entry(ways.first().copied()).or_default() += 1;
+        }
+    }
+    assert_eq!(alone.len(), 8, "{alone:?}");
 }
 
 // The small states

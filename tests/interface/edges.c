@@ -46,6 +46,8 @@ static void use_other_length(uint8_t *state, size_t length)
                  PANELRIGHTS_UNSOUND_STATE);
     CHECK_NUMBER(panelrights_access(state, length, 0, 0),
                  PANELRIGHTS_ACCESS_REFUSED + PANELRIGHTS_UNSOUND_STATE);
+    CHECK_NUMBER(panelrights_write_file(state, length, NULL, 0, NULL, 0),
+                 PANELRIGHTS_WRITE_REFUSED + PANELRIGHTS_UNSOUND_STATE);
 }
 
 /* So many bytes of a recipe that lists areas 31, 30, 29 and on. */
@@ -92,12 +94,71 @@ static void use_file(uint8_t *file, size_t length)
     memcpy(file, good_file, length);
     CHECK_NUMBER(panelrights_read_file(file, length, site.state, sizeof site.state), refusal);
     CHECK_NUMBER(panelrights_label(file, length, 2), refusal == PANELRIGHTS_OK ? 78 * 65536 + 30 : 0);
+    CHECK_NUMBER(panelrights_labels(file, length), refusal == PANELRIGHTS_OK ? 44 * 65536 + 64 : 0);
     if (refusal == PANELRIGHTS_OK) {
         file[41] = 1;
         CHECK_NUMBER(panelrights_read_file(file, length, site.state, sizeof site.state),
                      PANELRIGHTS_FILE_LACKS_ACCESS);
         CHECK_NUMBER(panelrights_label(file, length, 2), 0);
+        CHECK_NUMBER(panelrights_labels(file, length), 0);
     }
+}
+
+/* The good file is written again, with so many bytes of its label block, into a buffer of so many bytes. */
+static void use_writing(uint8_t *end_of_state, uint8_t *end_of_labels, uint8_t *end_of_file,
+                        size_t labels_len, size_t file_len)
+{
+    uint8_t *state = end_of_state - PANELRIGHTS_STATE_BYTES, *labels = end_of_labels - labels_len;
+    const size_t length = 44 + labels_len;
+    const uint32_t expected = labels_len % 32 != 0 ? PANELRIGHTS_WRITE_REFUSED + PANELRIGHTS_LABEL_BLOCK
+                              : file_len < length  ? PANELRIGHTS_WRITE_REFUSED + PANELRIGHTS_BUFFER_LENGTH
+                                                   : (uint32_t)length;
+
+    CHECK_NUMBER(panelrights_read_file(good_file, sizeof good_file, state, PANELRIGHTS_STATE_BYTES),
+                 PANELRIGHTS_OK);
+    memcpy(labels, good_file + 44, labels_len);
+    memset(end_of_file - file_len, 0, file_len);
+    CHECK_NUMBER(panelrights_write_file(state, PANELRIGHTS_STATE_BYTES, labels, labels_len,
+                                        end_of_file - file_len, file_len),
+                 expected);
+    if (expected == sizeof good_file)
+        CHECK(memcmp(end_of_file - file_len, good_file, sizeof good_file) == 0);
+}
+
+/* Record, label block and buffer where memory ends, and where it begins. */
+static void use_writings(void)
+{
+    uint8_t *state = room(), *labels = room(), *file = room();
+    size_t labels_len, file_len;
+
+    for (labels_len = 0; labels_len <= 64; labels_len++)
+        for (file_len = 0; file_len <= sizeof good_file + 2; file_len++)
+            use_writing(state + ROOM, labels + ROOM, file + ROOM, labels_len, file_len);
+    use_writing(state + PANELRIGHTS_STATE_BYTES, labels + 64, file + sizeof good_file, 64, sizeof good_file);
+    CHECK(munmap(state - ROOM, 3 * (size_t)ROOM) == 0);
+    CHECK(munmap(labels - ROOM, 3 * (size_t)ROOM) == 0);
+    CHECK(munmap(file - ROOM, 3 * (size_t)ROOM) == 0);
+}
+
+/* Zeros, so many that the length would be 0, or a record's, in 32 bits: no label block, no record, and room
+ * enough for a file. */
+static void use_long_writing(uint8_t *state)
+{
+    const size_t length = (size_t)1 << 32, more = length + PANELRIGHTS_STATE_BYTES;
+    uint8_t *zeros =
+        mmap(NULL, more, PROT_READ | PROT_WRITE, MAP_PRIVATE | MAP_ANONYMOUS | MAP_NORESERVE, -1, 0);
+
+    CHECK(zeros != MAP_FAILED);
+    CHECK_NUMBER(panelrights_founding(state, PANELRIGHTS_STATE_BYTES), PANELRIGHTS_OK);
+    CHECK_NUMBER(panelrights_write_file(state, PANELRIGHTS_STATE_BYTES, zeros, length, NULL, 0),
+                 PANELRIGHTS_WRITE_REFUSED + PANELRIGHTS_LABEL_BLOCK);
+    CHECK_NUMBER(panelrights_labels(zeros, length), 0);
+    CHECK_NUMBER(panelrights_write_file(state, PANELRIGHTS_STATE_BYTES, NULL, 0, zeros, length), 30);
+    CHECK_NUMBER(panelrights_labels(zeros, 30), 30 * 65536);
+    CHECK_NUMBER(panelrights_founding(zeros, PANELRIGHTS_STATE_BYTES), PANELRIGHTS_OK);
+    CHECK_NUMBER(panelrights_write_file(zeros, more, NULL, 0, NULL, 0),
+                 PANELRIGHTS_WRITE_REFUSED + PANELRIGHTS_UNSOUND_STATE);
+    CHECK(munmap(zeros, more) == 0);
 }
 
 void test_edges(void)
@@ -117,5 +178,7 @@ void test_edges(void)
     use_file(begin, sizeof good_file);
     for (length = 0; length <= sizeof good_file; length++)
         use_file(end - length, length);
+    use_writings();
+    use_long_writing(begin);
     CHECK(munmap(begin - ROOM, 3 * (size_t)ROOM) == 0);
 }

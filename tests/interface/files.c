@@ -3,9 +3,6 @@
 
 #include <string.h>
 
-/* A field of a header, below 256. */
-#define FIELD(number) (number), 0
-
 /* clang-format off */
 const uint8_t good_file[GOOD_FILE_BYTES] = {
     FIELD(1), FIELD(GOOD_FILE_BYTES),
@@ -80,7 +77,8 @@ static const struct {
     {41, 1, 1, PANELRIGHTS_FILE_LACKS_ACCESS}, /* area 1 imports the object, which it defines */
 };
 
-/* The file is refused with the number, the record is that of the founding state, and no area has a label. */
+/* The file is refused with the number, the record is that of the founding state, no area has a label, and
+ * there is no label block. */
 static void refuse(const uint8_t *file, size_t file_len, uint8_t refusal)
 {
     struct guarded site, founding;
@@ -94,6 +92,7 @@ static void refuse(const uint8_t *file, size_t file_len, uint8_t refusal)
         CHECK_NUMBER(panelrights_label(file, file_len, area), 0);
         CHECK_NUMBER(panelrights_label(file, file_len, 256 + area), 0);
     }
+    CHECK_NUMBER(panelrights_labels(file, file_len), 0);
 }
 
 static void test_refused(void)

@@ -24,6 +24,8 @@ int main(void)
     test_records();
     test_reading();
     test_files();
+    test_writing();
+    test_blocks();
     test_marks();
     test_edges();
     printf("%lu checks\n", checks());

@@ -6,10 +6,17 @@
 /* A record of another length, or of a state that is not sound: 12 comes first, whatever is asked. */
 static void refuse_record(uint8_t *state, size_t length)
 {
+    static const uint8_t partial[1] = {0};
+    static uint8_t file[PANELRIGHTS_FILE_MOST];
+
     CHECK_NUMBER(panelrights_step(state, length, PANELRIGHTS_LIST_AREA, 0, 1, 0), PANELRIGHTS_UNSOUND_STATE);
     CHECK_NUMBER(panelrights_step(state, length, 0, 255, 255, 255), PANELRIGHTS_UNSOUND_STATE);
     CHECK_NUMBER(panelrights_access(state, length, 0, 0),
                  PANELRIGHTS_ACCESS_REFUSED + PANELRIGHTS_UNSOUND_STATE);
+    CHECK_NUMBER(panelrights_write_file(state, length, NULL, 0, file, sizeof file),
+                 PANELRIGHTS_WRITE_REFUSED + PANELRIGHTS_UNSOUND_STATE);
+    CHECK_NUMBER(panelrights_write_file(state, length, partial, sizeof partial, NULL, 0),
+                 PANELRIGHTS_WRITE_REFUSED + PANELRIGHTS_UNSOUND_STATE);
 }
 
 static void refuse_length(uint8_t *state, size_t length)
@@ -168,12 +175,7 @@ static void test_one_bit_off(void)
     CHECK_NUMBER(count, 26);
 }
 
-/*
- * All that a sound state can have: every number is listed and every pair is there, but that area o % 32 alone
- * defines object o and does not import it. Between any two areas an object can move either way, so that no
- * access rests on a single pair.
- */
-static void make_full(struct guarded *site)
+void make_full(struct guarded *site)
 {
     unsigned object, area;
 

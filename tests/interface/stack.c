@@ -77,6 +77,25 @@ static void call_label(void)
     right &= panelrights_label(good_file, sizeof good_file, 1) == 46 * 65536 + 6;
 }
 
+static void call_labels(void)
+{
+    right &= panelrights_labels(good_file, sizeof good_file) == 44 * 65536 + 64;
+    right &= panelrights_labels(good_file, 107) == 0;
+}
+
+/* The state is the good file's: it is written, and refused in each way. */
+static void call_write_file(void)
+{
+    static uint8_t file[GOOD_FILE_BYTES];
+    const uint8_t *labels = good_file + 44;
+
+    right &= panelrights_write_file(state, sizeof state, labels, 64, file, sizeof file) == sizeof file;
+    right &= memcmp(file, good_file, sizeof file) == 0;
+    right &= panelrights_write_file(state, sizeof state, labels, 64, file, 107) == 65536 + 31;
+    right &= panelrights_write_file(state, sizeof state, labels, 63, file, sizeof file) == 65536 + 30;
+    right &= panelrights_write_file(state, sizeof state - 1, labels, 64, file, sizeof file) == 65536 + 12;
+}
+
 struct call {
     const char *name;
     void (*work)(void);
@@ -114,8 +133,10 @@ static size_t measure(struct call *call)
 int main(void)
 {
     struct call calls[] = {
-        {"founding", call_founding, NULL}, {"step", call_step, NULL},     {"read_file", call_read_file, NULL},
-        {"access", call_access, NULL},     {"recipe", call_recipe, NULL}, {"label", call_label, NULL},
+        {"founding", call_founding, NULL},   {"step", call_step, NULL},
+        {"read_file", call_read_file, NULL}, {"access", call_access, NULL},
+        {"recipe", call_recipe, NULL},       {"label", call_label, NULL},
+        {"labels", call_labels, NULL},       {"write_file", call_write_file, NULL},
     };
     size_t i;
 

@@ -58,6 +58,13 @@ struct guarded {
 /* The founding state between guards. */
 void found(struct guarded *site);
 
+/*
+ * All that a sound state can have: every number is listed and every pair is there, but that area o % 32 alone
+ * defines object o and does not import it. Between any two areas an object can move either way, so that no
+ * access rests on a single pair.
+ */
+void make_full(struct guarded *site);
+
 /* Hands a founding record over as of each of some other lengths, that of records before version 3 among them,
  * and of length 0 as NULL. Checks that no byte of it changes, and none before or behind it. */
 void with_other_lengths(void (*refuse)(uint8_t *state, size_t state_len));
@@ -92,10 +99,33 @@ struct recipe add_owners(uint8_t area);
 /* Another instruction at this place of the recipe, from 1. */
 void put(struct recipe *recipe, size_t place, const uint8_t entry[PANELRIGHTS_RECIPE_ENTRY_BYTES]);
 
+/* A field of a site file's header, and how many bytes an entry of its labels has. */
+#define FIELD(number) (number) & 255, (number) >> 8
+enum { ENTRY = PANELRIGHTS_LABEL_ENTRY_BYTES };
+
 /* A site file: areas 0 and 1 lie in area 2, object 9 is defined and exported by area 1, imported by area 0.
  */
 enum { GOOD_FILE_BYTES = 108 };
 extern const uint8_t good_file[GOOD_FILE_BYTES];
+
+/* What a writing is given: any bytes as a record and as a label block, and a buffer of so many bytes. */
+struct writing {
+    const uint8_t *state;
+    size_t state_len;
+    const uint8_t *labels;
+    size_t labels_len;
+    size_t file_len;
+};
+
+/* Hands all three over between guards, and NULL for what is empty. Checks that the answer is the length, that
+ * the file stands in front of the buffer, and that no other byte is changed. */
+void expect_written(const struct writing *writing, const uint8_t *file, size_t length);
+
+/* The same where the answer is a refusal: no byte is changed. */
+void expect_refused(const struct writing *writing, uint8_t refusal);
+
+/* An entry of a label block, with a text of so many letters. */
+void put_entry(uint8_t entry[PANELRIGHTS_LABEL_ENTRY_BYTES], uint8_t area, uint8_t length);
 
 void test_names(void);
 void test_machine(void);
@@ -105,6 +135,8 @@ void test_agreement(void);
 void test_records(void);
 void test_reading(void);
 void test_files(void);
+void test_writing(void);
+void test_blocks(void);
 void test_edges(void);
 
 #endif

@@ -35,6 +35,9 @@
 //! whose numbers are fixed or come with the call. [`State::recipe`] obeys it entirely or not at all; a refusal says at
 //! which instruction, and why.
 //!
+//! On a disk a site is kept as a site file, which has labels for its areas besides. [`read_file`] gives the state,
+//! [`labels`] the [`Labels`], and [`State::to_file`] writes both into a file again.
+//!
 //! `make lib` in the repository builds the static library. The environment variable `PANELRIGHTS_LIB_DIR` names another folder to
 //! link it from. A call takes less than 16 KiB of stack.
 
@@ -44,12 +47,14 @@ pub mod sys;
 
 mod file;
 mod instruction;
+mod labels;
 mod recipe;
 mod refusal;
 mod state;
 
-pub use file::{label, read_file};
+pub use file::{label, labels, read_file};
 pub use instruction::{Instruction, Kind};
+pub use labels::{BadLabel, Labels};
 pub use recipe::{Operand, Recipe, RecipeLength, RecipeRefused};
 pub use refusal::{NoRefusal, Refusal};
 pub use state::{State, AREAS, MOST_STEPS, OBJECTS, USERS};

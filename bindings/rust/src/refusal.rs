@@ -129,9 +129,15 @@ refusals! {
         table that is stored on that same area. In the program that wrote the file, take that import or export out, or enter a \
         way of at most 8 steps where one is missing, and save the site anew.";
 
-    /// The state buffer has another length than a record.
-    BufferLength = 31: "The record of the site has the wrong length. The program that kept it is at fault: tell its maker, and go \
-        back to the site file.";
+    /// A label is for an area that is not listed. Over the C interface also a label block with a partial entry; with a
+    /// number, length, text byte or filler byte outside its range; or whose areas do not ascend.
+    LabelBlock = 30: "The site can't be saved with these labels: one is for an area that is not listed on the site, \
+        one does not have 1 to 30 plain characters, or their list is out of order or damaged. Take away the labels of \
+        areas that are not listed and correct the others; if all are right, tell the program's maker.";
+    /// The state buffer has another length than a record. Over the C interface also a buffer that is shorter than the
+    /// site file.
+    BufferLength = 31: "The record of the site has the wrong length, or there is too little room for the site file. \
+        The program is at fault: tell its maker, and go back to the site file that was saved last.";
 }
 
 impl Error for Refusal {}

@@ -20,6 +20,15 @@ pub const NO_ACCESS: u16 = 255;
 /// What [`panelrights_access`] adds to a refusal.
 pub const ACCESS_REFUSED: u16 = 256;
 
+/// How many bytes a site file has at most: a buffer of so many always does for [`panelrights_write_file`].
+pub const FILE_MOST: usize = 13_340;
+/// How many bytes each entry of a label block has.
+pub const LABEL_ENTRY_BYTES: usize = 32;
+/// How many bytes the text of a label has at most.
+pub const LABEL_TEXT_MOST: usize = 30;
+/// What [`panelrights_write_file`] adds to a refusal.
+pub const WRITE_REFUSED: u32 = 65_536;
+
 extern "C" {
     /// How many bytes the record of a state has.
     ///
@@ -78,6 +87,28 @@ extern "C" {
     /// # Safety
     /// `file_len` bytes may be read at `file`.
     pub fn panelrights_label(file: *const u8, file_len: usize, area: u32) -> u32;
+
+    /// Where the label block stands in an accepted file: offset * 65536 + length, or 0 for a file that is refused.
+    ///
+    /// # Safety
+    /// `file_len` bytes may be read at `file`.
+    pub fn panelrights_labels(file: *const u8, file_len: usize) -> u32;
+
+    /// Writes the site file of a state and its label block. The length of the file, and the buffer has its bytes from
+    /// the front, those past the length as they were; or [`WRITE_REFUSED`] + the refusal, which is 12, 30 or 31, and
+    /// no byte is changed.
+    ///
+    /// # Safety
+    /// `state_len` bytes may be read at `state`, `labels_len` bytes read at `labels`, `file_len` bytes read and written
+    /// at `file`, and what is written overlaps neither of the others.
+    pub fn panelrights_write_file(
+        state: *const u8,
+        state_len: usize,
+        labels: *const u8,
+        labels_len: usize,
+        file: *mut u8,
+        file_len: usize,
+    ) -> u32;
 
     /// The place (0 to 7) of the lowest mark set in a byte, 8 if none.
     ///

@@ -1,5 +1,8 @@
 //! Site files: read, refused, and their labels.
 
+mod common;
+
+use common::THIRTY;
 use panelrights::{label, read_file, Refusal, State};
 
 /// A site file: five tables of pairs in the file's order, and the labels.
@@ -22,8 +25,6 @@ fn file(tables: [&[[u8; 2]]; 5], labels: &[(u8, &str)]) -> Vec<u8> {
     file.extend(parts.into_iter().flat_map(|(_, bytes)| bytes));
     file
 }
-
-const THIRTY: &str = "Sports hall and changing rooms";
 
 /// Area 1 lies in area 0 and exports object 9, which it defines; area 0 has no label.
 fn good() -> Vec<u8> {
@@ -136,6 +137,7 @@ fn refused_files() {
     for (file, refusal) in bad {
         assert_eq!(read_file(&file), Err(refusal), "{} bytes", file.len());
         assert_eq!(label(&file, 1), None, "{refusal:?}");
+        assert_eq!(panelrights::labels(&file), Err(refusal));
     }
 }
 
@@ -153,6 +155,8 @@ fn labels() {
     for above in [1 << 16, 1 << 24, 1 << 31, u32::MAX - 255] {
         assert_eq!(label(&file, above + 2), None, "{above}");
     }
+    let all = panelrights::labels(&file).unwrap();
+    assert!(all.iter().eq([(1, "~ "), (2, THIRTY)]));
     let text = label(&file, 2).unwrap();
     assert_eq!(text.as_ptr(), file[file.len() - 30..].as_ptr(), "the text is a part of the caller's file");
 }

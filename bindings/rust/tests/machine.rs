@@ -3,22 +3,8 @@
 
 mod common;
 
-use common::{changed, EXPORTS, IMPORTS};
+use common::{after, changed, obey, EXPORTS, IMPORTS};
 use panelrights::{Instruction, Kind, Refusal, State};
-
-/// Obeys the instructions, all of which must be accepted.
-fn obey(state: &mut State, instructions: &[[u8; 4]]) {
-    for &instruction in instructions {
-        assert_eq!(state.step(instruction), Ok(()), "{instruction:?}");
-    }
-}
-
-/// The founding state after the instructions, all of which must be accepted.
-fn after(instructions: &[[u8; 4]]) -> State {
-    let mut state = State::founding();
-    obey(&mut state, instructions);
-    state
-}
 
 /// What is set at last must be refused with the number, and leave the state as it was.
 fn refused(before: &[[u8; 4]], last: [u8; 4], number: u8) {

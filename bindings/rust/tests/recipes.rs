@@ -3,7 +3,7 @@
 
 mod common;
 
-use common::{changed, AREA_LIST};
+use common::{after, changed, AREA_LIST};
 use panelrights::Operand::{self, Fixed, P0, P1, P2, P3};
 use panelrights::{sys, Instruction, Kind, Recipe, RecipeLength, RecipeRefused, Refusal, State};
 use std::collections::BTreeSet;
@@ -40,15 +40,6 @@ const OPENING_BYTES: [[u8; 5]; 9] = [
     [3, 1, 0, 1, 2],
     [3, 1, 1, 1, 2],
 ];
-
-/// The founding state after the instructions, all of which must be accepted.
-fn after(instructions: &[[u8; 4]]) -> State {
-    let mut state = State::founding();
-    for &instruction in instructions {
-        assert_eq!(state.step(instruction), Ok(()), "{instruction:?}");
-    }
-    state
-}
 
 /// The recipe must be accepted at the state.
 fn accepted(state: &State, recipe: &Recipe, activator: u8, parameters: [u8; 4]) -> State {

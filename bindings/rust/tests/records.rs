@@ -5,15 +5,6 @@ mod common;
 use common::*;
 use panelrights::{sys, Refusal, State, AREAS, OBJECTS, USERS};
 
-/// The founding state after the instructions, all of which must be accepted.
-fn after(instructions: &[[u8; 4]]) -> State {
-    let mut state = State::founding();
-    for &instruction in instructions {
-        assert_eq!(state.step(instruction), Ok(()), "{instruction:?}");
-    }
-    state
-}
-
 #[test]
 fn a_record_has_the_length_that_the_library_says() {
     // SAFETY: nothing is asked of a caller.

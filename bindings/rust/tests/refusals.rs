@@ -4,7 +4,7 @@ use panelrights::{NoRefusal, Refusal};
 use std::collections::HashSet;
 
 fn named() -> impl Iterator<Item = u8> {
-    (1..=12).chain([14, 15]).chain(21..=29).chain([31])
+    (1..=12).chain([14, 15]).chain(21..=31)
 }
 
 #[test]
@@ -47,6 +47,7 @@ fn each_name_has_its_number() {
         (Refusal::FileOrder, 27),
         (Refusal::FileLists, 28),
         (Refusal::FileLacksAccess, 29),
+        (Refusal::LabelBlock, 30),
         (Refusal::BufferLength, 31),
     ];
     assert!(numbers.iter().map(|&(_, number)| number).eq(named()));
@@ -80,6 +81,11 @@ fn each_has_words_of_its_own() {
         assert!(own_import.contains(said), "{own_import}");
     }
     assert!(Refusal::FileLacksAccess.to_string().contains("imports a table that is stored on that same area"));
+    let label_block = Refusal::LabelBlock.to_string();
+    for said in ["not listed", "1 to 30 plain characters", "out of order", "damaged", "Take away", "correct"] {
+        assert!(label_block.contains(said), "{label_block}");
+    }
+    assert!(Refusal::BufferLength.to_string().contains("too little room for the site file"));
     assert!(Refusal::Unknown(200).to_string().contains("200"));
     assert_eq!(NoRefusal(0).to_string(), "0 is the number of no refusal");
 }

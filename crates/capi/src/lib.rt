@@ -1,12 +1,13 @@
-// The C interface, which include/panelrights.h declares: numbers and byte slices. Each function takes a record apart
-// and calls one function of a crate below that decides; no rule stands here.
+// The C interface, which include/panelrights.h declares: numbers and byte slices. Each function takes a record apart,
+// where it is handed one, and calls one function of a crate below that decides; no rule stands here.
 ghost use mathlib.Core.Path.{_≡_};
 ghost use Rattle.records.specs.Record.{recordSize, numberFor};
 ghost use Rattle.instructions.specs.Instructions.{fourBytes};
 ghost use Rattle.marks.specs.Marks.{lowest};
 ghost use Rattle.access.specs.Answer.{answerNumber};
 ghost use Rattle.interface.specs.Interface.{foundingBuffer, stepNumber, stepBuffer, answerOf, accessNumber, fileNumber};
-ghost use Rattle.interface.specs.Interface.{callOf, recipeAnswer, recipeBuffer, fileBuffer, labelNumber};
+ghost use Rattle.interface.specs.Interface.{callOf, recipeAnswer, recipeBuffer, fileBuffer, labelNumber, blockNumber};
+ghost use Rattle.interface.specs.Interface.{writeAnswer, writeBuffer};
 use access::Answer;
 use machine::Reply;
 use recipes::Call;
@@ -126,6 +127,35 @@ pub extern "C" fn panelrights_label(file: &[u8], area: u32) -> u32
 {
     let place = label_finder::label_place(file, area);
     place.at as u32 * 65536 + place.length as u32
+}
+
+// Where the label block of the file stands: offset * 65536 + length, 0 if the file is refused.
+#[no_mangle]
+pub extern "C" fn panelrights_labels(file: &[u8]) -> u32
+    ensures { λ r. ⌜ r ≡ blockNumber (now (file .entry)) ⌝ }
+{
+    let block = label_finder::block_place(file);
+    block.at as u32 * 65536 + block.length as u32
+}
+
+// Writes the site file of the state and its labels into the buffer: the length; or 65536 + n for refusal n, and no byte
+// changed.
+#[no_mangle]
+pub extern "C" fn panelrights_write_file<'a>(
+    state: &'a [u8],
+    labels: &'a [u8],
+    file: &'a mut [u8],
+) -> u32
+    ensures number { λ r. ⌜ r ≡ writeAnswer (now (state .entry)) (now (labels .entry)) (now (file .entry)) ⌝ }
+    ensures buffer { λ _. ⌜ now (file .exit)
+        ≡ writeBuffer (now (state .entry)) (now (labels .entry)) (now (file .entry)) ⌝ }
+{
+    let written = site_writer::write(record_reader::state_of(state), labels, file);
+    let refusal = written.refusal;
+    if refusal != 0 {
+        return 65536 + refusal as u32;
+    }
+    written.length as u32
 }
 
 // The place (0 to 7) of the lowest mark set in the byte, 8 if none.

@@ -1,19 +1,20 @@
 -- The claims of specs/Claims.antt, each proved under its name.
 -- Assumes nothing.
-use Prim.Native.Nat.{ℕ, _+_, _*_, _/_, _%_, _<_}
+use Prim.Native.Nat.{ℕ, _+_, _*_, _/_, _%_, _≤_, _<_}
 use mathlib.Core.Path.{_≡_, refl, sym, ap, subst, _∙_}
-use mathlib.Core.Logic.{_⊎_, inl, inr}
-use mathlib.Core.Bool.{Bool, true, false, _||_, not, cond}
-use mathlib.Core.List.{List, [], _∷_, map}
+use mathlib.Core.Logic.{_⊎_, inl, inr, ⊎-elim}
+use mathlib.Core.Bool.{Bool, true, false, _&&_, _||_, not, cond}
+use mathlib.Core.List.{List, [], _∷_, _++_, map}
 use native.Mathlib.Omega.{arith}
 use lib.Dec.{T, eqb, ltb, eqb→eq}
-use lib.ListN.{length}
+use lib.ListN.{length, take, drop}
+use lib.Seq.{take-append-seam, drop-append-seam}
 use borrow.Author.Tests.{le-ltb}
 use Rattle.state.specs.Checks.{firstMet, among}
 use Rattle.state.specs.Site.{founding}
 use Rattle.state.specs.Site.{Site}
-use Rattle.state.proofs.Bools.{or-right, test}
-use Rattle.state.proofs.Checks.{first-meets}
+use Rattle.state.proofs.Bools.{or-right, or-cases, is-true, test}
+use Rattle.state.proofs.Checks.{first-meets, among-meets}
 use Rattle.state.proofs.Laws.{founding-shaped}
 use Rattle.access.specs.Lending.{Lending, lending}
 use Rattle.access.specs.Answer.{answer, answerNumber, longest}
@@ -36,16 +37,24 @@ use Rattle.recipes.specs.Run.{recipeOf}
 use Rattle.recipe_guarantees.specs.Commands.{Command, single, recipe, after, afterAll, allCounted}
 use Rattle.recipe_guarantees.proofs.Laws.{recipe-numbers, recipe-two-digits, place-at-most, place-zero-exactly}
 use Rattle.recipe_guarantees.proofs.Commands.{commands-upheld}
-use Rattle.site_file.specs.Reading.{readOf, readNumbers}
-use Rattle.label_finder.specs.Finder.{hasLabel, textAt, textLength}
-use Rattle.site_file.proofs.Laws.{read-sound, read-numbers, read-number}
-use Rattle.label_finder.proofs.Laws.{label-small, label-behind-front, no-label-at-front}
-use Rattle.interface.specs.Interface.{changedBy, stepBuffer, answerOf, accessNumber, fileNumber, runBuffer}
-use Rattle.interface.specs.Interface.{placed, recipeAnswer, commandBuffer, commandsBuffer}
+use Rattle.site_file.specs.Reading.{fileRefusal, readOf, readNumbers}
+use Rattle.label_finder.specs.Finder.{hasLabel, textAt, textLength, blockAt, blockLength}
+use Rattle.site_file.proofs.Laws.{read-sound, read-numbers, read-number, accepted-header}
+use Rattle.site_format.specs.Format.{labels, part}
+use Rattle.label_finder.proofs.Laws.{label-small, label-behind-front, no-label-at-front, block-small, block-is-labels, no-block-refused}
+use Rattle.site_encoding.specs.Encode.{encode}
+use Rattle.site_encoding.specs.Claims.{mostBytes}
+use Rattle.site_encoding.proofs.Laws.{encode-accepted, encode-most}
+use Rattle.site_encoding.specs.Writer.{writeNumbers, writeRefusal, writeOf, bufferAfter}
+use Rattle.site_encoding.proofs.WriterLaws.{refused-exactly, write-numbers, buffer-length, writing-again}
+use Rattle.interface.specs.Interface.{changedBy, stepBuffer, answerOf, accessNumber, fileNumber, fileBuffer, runBuffer}
+use Rattle.interface.specs.Interface.{placed, recipeAnswer, commandBuffer, commandsBuffer, writtenNumber, writeAnswer, writeBuffer}
 use Rattle.interface.specs.Claims
-use Rattle.interface.specs.Claims.{isAccessNumber}
+use Rattle.interface.specs.Claims.{isAccessNumber, isWriteAnswer, WrittenAgain}
 use Rattle.interface.proofs.Steps
 use Rattle.interface.proofs.Steps.{Obeys, commandNumber}
+use Rattle.interface.proofs.Writes
+use Rattle.interface.proofs.Writes.{Wrote, Refuses}
 
 -- ---- a state's record
 pub step-is-step : Claims.StepIsStep
@@ -231,3 +240,135 @@ no-label-is-0 file a = (λ e. nowhere e (test (hasLabel file a)), zero)
 
     zero : hasLabel file a ≡ false → textAt file a * 65536 + textLength file a ≡ 0
     zero f = let front = no-label-at-front file a f in omega (arith, front .starts, front .long)
+
+-- ---- a block's number
+pub block-number-parts : Claims.BlockNumberParts
+block-number-parts file bytes =
+    let small = block-small file bytes in
+    record { offset = omega arith; size = omega arith }
+
+pub no-block-is-0 : Claims.NoBlockIs0
+no-block-is-0 file = (refused, zero)
+  where
+    refused : blockAt file * 65536 + blockLength file ≡ 0 → fileRefusal file ≡ 0 → ⊥
+    refused e ok = let behind = block-is-labels file ok .behind-header in omega arith
+
+    zero : (fileRefusal file ≡ 0 → ⊥) → blockAt file * 65536 + blockLength file ≡ 0
+    zero f = let front = no-block-refused file f in omega (arith, front .0, front .1)
+
+-- ---- the writer
+pub write-is-write : Claims.WriteIsWrite
+write-is-write s h block file =
+    record {
+      answer = Writes.answer-is (bytesOf s) block file ∙ ap (λ (t : Site). writtenNumber (writeOf t block file)) (state-of-bytes s h);
+      buffer = Writes.buffer-is (bytesOf s) block file ∙ ap (λ (t : Site). bufferAfter t block file) (state-of-bytes s h);
+    }
+
+pub no-record-no-file : Claims.NoRecordNoFile
+unfolding writeAnswer writeBuffer
+no-record-no-file buffer block file e =
+    record {
+      answer = ap (λ (v : Bool). cond v (writtenNumber (writeOf (stateOf buffer) block file)) (65536 + 12)) e;
+      same-bytes = ap (λ (v : Bool). cond v (bufferAfter (stateOf buffer) block file) file) e;
+    }
+
+pub refused-write-same-bytes : Claims.RefusedWriteSameBytes
+refused-write-same-bytes buffer block file h = go (Writes.outcome buffer block file)
+  where
+    go : Wrote buffer block file ⊎ Refuses buffer block file → writeBuffer buffer block file ≡ file
+    go (inl w) = let small = Writes.wrote-small buffer block file w in absurd (omega arith)
+    go (inr r) = r .bytes
+
+pub write-length : Claims.WriteLength
+write-length buffer block file = ap length (Writes.buffer-is buffer block file) ∙ buffer-length (stateOf buffer) block file
+
+pub write-past : Claims.WritePast
+write-past buffer block file h =
+    let w = Writes.wrote-below buffer block file h in
+    rw (w .bytes, w .answer) (drop-append-seam (encode (stateOf buffer) block) _)
+
+pub length-will-do : Claims.LengthWillDo
+length-will-do buffer block file h room long =
+    let w = Writes.wrote-below buffer block file h in
+    let fits = subst (λ (n : ℕ). n ≤ length room) (w .answer) long in
+    let again = Writes.wrote buffer block room (record { sound = w .writable .sound; lawful = w .writable .lawful; room = fits }) in
+    record {
+      answer = again .answer ∙ sym (w .answer);
+      bytes = again .bytes ∙ rw (w .bytes, w .answer) (ap (λ (f : List ℕ). f ++ drop (length (encode (stateOf buffer) block)) room) (sym (take-append-seam (encode (stateOf buffer) block) _)));
+    }
+
+pub most-always-does : Claims.MostAlwaysDoes
+most-always-does buffer block file long e = go (Writes.outcome buffer block file)
+  where
+    go : Wrote buffer block file ⊎ Refuses buffer block file → ⊥
+    go (inl w) = let small = Writes.wrote-small buffer block file w in omega arith
+    go (inr r) =
+        let n : writeRefusal (stateOf buffer) block file ≡ 31 = omega (arith, r .answer) in
+        let so = refused-exactly (stateOf buffer) (state-shaped buffer) block file .short .0 n in
+        let most = encode-most (stateOf buffer) block (so .0) (so .1) in
+        let less = so .2 in
+        omega arith
+
+-- each number of the writer's table, with 65536
+write-known : ℕ → Bool
+write-known n = eqb n 0 || isWriteAnswer (65536 + n)
+
+pub write-answers : Claims.WriteAnswers
+unfolding write-known
+write-answers buffer block file = go (Writes.outcome buffer block file)
+  where
+    s : Site
+    s = stateOf buffer
+
+    go : Wrote buffer block file ⊎ Refuses buffer block file → T (isWriteAnswer (writeAnswer buffer block file))
+    go (inl w) =
+        let n = writeAnswer buffer block file in
+        let small : n ≤ mostBytes = Writes.wrote-small buffer block file w in
+        let header = accepted-header (encode s block) (encode-accepted s block (w .writable .sound) (w .writable .lawful) .no-refusal) .long in
+        let long : 28 ≤ n = rw (w .answer) header in
+        or-right (among n (map (λ k. 65536 + k) writeNumbers)) (not (ltb n 28) && not (ltb mostBytes n)) (rw (le-ltb n 28 long, le-ltb mostBytes n small) tt)
+    go (inr r) =
+        rw (r .answer)
+        (⊎-elim (λ z. absurd (r .some (eqb→eq (writeRefusal s block file) 0 z))) (λ t. t)
+        (or-cases (eqb (writeRefusal s block file) 0) (isWriteAnswer (65536 + writeRefusal s block file))
+        (among-meets write-known (0 ∷ writeNumbers) (writeRefusal s block file) tt (write-numbers s block file))))
+
+-- ---- there and back
+-- a file that is accepted, as a record
+read-so : (file into : List ℕ) → T (isSized into) → fileRefusal file ≡ 0 → (fileNumber file into ≡ 0) × (fileBuffer file into ≡ bytesOf (readOf file .state))
+unfolding fileNumber
+read-so file into t ok = (
+  ap (λ (v : Bool). cond v (readOf file .refusal) 31) (is-true (isSized into) t) ∙ read-number file ∙ ok,
+  stored-sized into (readOf file .state) (eqb→eq (length into) recordSize t),
+)
+
+pub written-is-read : Claims.WrittenIsRead
+written-is-read buffer block file h into sized =
+    let w = Writes.wrote-below buffer block file h in
+    let s = stateOf buffer in
+    let written : take (writeAnswer buffer block file) (writeBuffer buffer block file) ≡ encode s block =
+    rw (w .bytes, w .answer) (take-append-seam (encode s block) _) in
+    let a = encode-accepted s block (w .writable .sound) (w .writable .lawful) in
+    let r = read-so (encode s block) into sized (a .no-refusal) in
+    rw written
+    (record {
+      accepted = r .0;
+      record-bytes = r .1 ∙ ap bytesOf (a .state) ∙ bytes-of-state buffer (Steps.sound-record buffer (w .writable .sound));
+      label-bytes = block-is-labels (encode s block) (a .no-refusal) .bytes ∙ a .block;
+    })
+
+pub read-is-written : Claims.ReadIsWritten
+unfolding fileNumber
+read-is-written file into bytes ok room long = go (test (isSized into))
+  where
+    s : Site
+    s = readOf file .state
+
+    go : T (isSized into) ⊎ (isSized into ≡ false) → WrittenAgain file (fileBuffer file into) (take (blockLength file) (drop (blockAt file) file)) room
+    go (inr e) = absurd (omega (arith, sym (ap (λ (v : Bool). cond v (readOf file .refusal) 31) e) ∙ ok))
+    go (inl t) =
+        let accepted : fileRefusal file ≡ 0 = sym (read-number file) ∙ sym (ap (λ (v : Bool). cond v (readOf file .refusal) 31) (is-true (isSized into) t)) ∙ ok in
+        let again = writing-again file bytes accepted room long in
+        let same = write-is-write s (read-sound file .shaped) (part file labels) room in
+        rw (read-so file into t accepted .1, block-is-labels file accepted .bytes)
+        (record { answer = same .answer ∙ ap writtenNumber (again .answer); bytes = same .buffer ∙ again .bytes })

@@ -8,6 +8,7 @@
 --     after-record, next-state         the same for a record, in both cases; the record stays one (next-record)
 --     same-length                      and the buffer has the bytes that it had
 --     no-record                        bytes that are no record are 12
+--     unsound                          and stand for the state of nothing, which is not sound
 --     sound-record                     a sound state is that of a record
 --     reply-is                         the access question
 -- Assumes nothing.
@@ -72,7 +73,7 @@ commandNumber (single x) s = stepOf s x .refusal
 commandNumber (recipe bytes call) s = placed (recipeOf s bytes call)
 
 -- the state of nothing is not sound
-unsound : (buffer : List ℕ) → isRecord buffer ≡ false → isSound (stateOf buffer) ≡ false
+pub unsound : (buffer : List ℕ) → isRecord buffer ≡ false → isSound (stateOf buffer) ≡ false
 unsound buffer e = ap isSound (no-record-empty buffer e) ∙ empty-unsound
 
 module _ {number : Site → ℕ} {next : Site → Site} (o : Obeys number next) (buffer : List ℕ) where

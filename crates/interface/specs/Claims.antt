@@ -1,12 +1,12 @@
 -- What is claimed of the C interface. Each claim is a type, which proofs/Laws.antt inhabits under the claim's name. The
 -- words in quotation marks are those of include/panelrights.h.
-use Prim.Native.Nat.{ℕ, _+_, _/_, _%_, _≤_}
+use Prim.Native.Nat.{ℕ, _+_, _/_, _%_, _≤_, _<_}
 use mathlib.Core.Path.{_≡_}
 use mathlib.Core.Logic.{_↔_}
-use mathlib.Core.Bool.{Bool, false, _||_, not}
-use mathlib.Core.List.{List, [], _∷_, map}
+use mathlib.Core.Bool.{Bool, false, _&&_, _||_, not}
+use mathlib.Core.List.{List, [], _∷_, _++_, map}
 use lib.Dec.{T, eqb, ltb}
-use lib.ListN.{length}
+use lib.ListN.{length, take, drop}
 use Rattle.state.specs.Checks.{among}
 use Rattle.state.specs.Site.{Site, Shaped, founding}
 use Rattle.access.specs.Answer.{longest}
@@ -21,12 +21,14 @@ use Rattle.recipes.specs.Run.{recipeOf}
 use Rattle.recipes.specs.declared.Call.{Call}
 use Rattle.recipe_guarantees.specs.Claims.{recipeNumbers}
 use Rattle.recipe_guarantees.specs.Commands.{Command, afterAll, allCounted}
-use Rattle.site_file.specs.Reading.{readNumbers, readOf}
+use Rattle.site_file.specs.Reading.{readNumbers, fileRefusal, readOf}
 use Rattle.site_format.specs.Format.{AreBytes}
-use Rattle.label_finder.specs.Finder.{hasLabel, textAt, textLength}
+use Rattle.label_finder.specs.Finder.{hasLabel, textAt, textLength, blockAt, blockLength}
+use Rattle.site_encoding.specs.Claims.{mostBytes}
+use Rattle.site_encoding.specs.Writer.{writeNumbers, writeOf, bufferAfter}
 use Rattle.interface.specs.Interface.{foundingBuffer, stepNumber, stepBuffer, answerOf, accessNumber, fileNumber}
 use Rattle.interface.specs.Interface.{fileBuffer, labelNumber, runBuffer, placed, recipeAnswer, recipeBuffer}
-use Rattle.interface.specs.Interface.{commandsBuffer}
+use Rattle.interface.specs.Interface.{commandsBuffer, blockNumber, writtenNumber, writeAnswer, writeBuffer}
 
 -- ---- with a state's record, the interface does what the machine does with the state
 pub record StepsAs (s : Site) (x : Bytes) : Type 0 where
@@ -107,7 +109,7 @@ RefusedRecipeSameBytes =
     (buffer bytes : List ℕ) (call : Call) → (recipeAnswer buffer bytes call ≡ 0 → ⊥)
     → recipeBuffer buffer bytes call ≡ buffer
 
--- "A record of another length, or with a byte other than 0 and 1, is 12."
+-- "A record of another length is 12."
 abbrev pub NoRecordIs12 : Type 0
 NoRecordIs12 = (buffer : List ℕ) (x : Bytes) → isRecord buffer ≡ false → stepNumber buffer x ≡ 12
 
@@ -163,3 +165,93 @@ LabelNumberParts = (file : List ℕ) → AreBytes file → (a : ℕ) → LabelPa
 
 abbrev pub NoLabelIs0 : Type 0
 NoLabelIs0 = (file : List ℕ) (a : ℕ) → (labelNumber file a ≡ 0) ↔ (hasLabel file a ≡ false)
+
+-- ---- and those of a block's number; with no label the block has the length 0, and its number is not 0
+pub record BlockParts (file : List ℕ) : Type 0 where
+  pub offset : blockNumber file / 65536 ≡ blockAt file
+  pub size : blockNumber file % 65536 ≡ blockLength file
+
+abbrev pub BlockNumberParts : Type 0
+BlockNumberParts = (file : List ℕ) → AreBytes file → BlockParts file
+
+-- "0 if the file is refused", and for no other
+abbrev pub NoBlockIs0 : Type 0
+NoBlockIs0 = (file : List ℕ) → (blockNumber file ≡ 0) ↔ (fileRefusal file ≡ 0 → ⊥)
+
+-- ---- the writer
+-- with a state's record, the interface does what the writer does with the state
+pub record WritesAs (s : Site) (block file : List ℕ) : Type 0 where
+  pub answer : writeAnswer (bytesOf s) block file ≡ writtenNumber (writeOf s block file)
+  pub buffer : writeBuffer (bytesOf s) block file ≡ bufferAfter s block file
+
+abbrev pub WriteIsWrite : Type 0
+WriteIsWrite = (s : Site) → Shaped s → (block file : List ℕ) → WritesAs s block file
+
+-- "A record of another length is 12.", "and no byte is changed"
+pub record UnwrittenAs12 (buffer block file : List ℕ) : Type 0 where
+  pub answer : writeAnswer buffer block file ≡ 65536 + 12
+  pub same-bytes : writeBuffer buffer block file ≡ file
+
+abbrev pub NoRecordNoFile : Type 0
+NoRecordNoFile = (buffer block file : List ℕ) → isRecord buffer ≡ false → UnwrittenAs12 buffer block file
+
+-- "or 65536 + n for refusal n, which is 12, 30 or 31, and no byte is changed"
+abbrev pub RefusedWriteSameBytes : Type 0
+RefusedWriteSameBytes =
+    (buffer block file : List ℕ) → 65536 ≤ writeAnswer buffer block file → writeBuffer buffer block file ≡ file
+
+-- the buffer stays as long as it was
+abbrev pub WriteLength : Type 0
+WriteLength = (buffer block file : List ℕ) → length (writeBuffer buffer block file) ≡ length file
+
+-- "bytes past the length keep their content"
+abbrev pub WritePast : Type 0
+WritePast =
+    (buffer block file : List ℕ) → writeAnswer buffer block file < 65536
+    → drop (writeAnswer buffer block file) (writeBuffer buffer block file) ≡ drop (writeAnswer buffer block file) file
+
+-- "A buffer of just the file's length will do": what is written into one buffer is written into any that is no shorter
+-- than the file
+pub record SameFile (buffer block file room : List ℕ) (n : ℕ) : Type 0 where
+  pub answer : writeAnswer buffer block room ≡ n
+  pub bytes : writeBuffer buffer block room ≡ take n (writeBuffer buffer block file) ++ drop n room
+
+abbrev pub LengthWillDo : Type 0
+LengthWillDo =
+    (buffer block file : List ℕ) → writeAnswer buffer block file < 65536
+    → (room : List ℕ) → writeAnswer buffer block file ≤ length room
+    → SameFile buffer block file room (writeAnswer buffer block file)
+
+-- "and one of PANELRIGHTS_FILE_MOST bytes always does": it is never refused as 31
+abbrev pub MostAlwaysDoes : Type 0
+MostAlwaysDoes =
+    (buffer block file : List ℕ) → mostBytes ≤ length file → writeAnswer buffer block file ≡ 65536 + 31 → ⊥
+
+-- 65536 + n where n is 12, 30 or 31; or a length, from the header's 28 bytes to PANELRIGHTS_FILE_MOST
+abbrev pub isWriteAnswer : ℕ → Bool
+isWriteAnswer n = among n (map (λ k. 65536 + k) writeNumbers) || not (ltb n 28) && not (ltb mostBytes n)
+
+abbrev pub WriteAnswers : Type 0
+WriteAnswers = (buffer block file : List ℕ) → T (isWriteAnswer (writeAnswer buffer block file))
+
+-- "What was written is read again, as the same record and the same label block"
+pub record ReadAgain (buffer block file into : List ℕ) : Type 0 where
+  pub accepted : fileNumber file into ≡ 0
+  pub record-bytes : fileBuffer file into ≡ buffer
+  pub label-bytes : take (blockLength file) (drop (blockAt file) file) ≡ block
+
+abbrev pub WrittenIsRead : Type 0
+WrittenIsRead =
+    (buffer block file : List ℕ) → writeAnswer buffer block file < 65536 → (into : List ℕ) → T (isSized into)
+    → ReadAgain buffer block (take (writeAnswer buffer block file) (writeBuffer buffer block file)) into
+
+-- "An accepted file is written again from its record and its label block, byte for byte."
+pub record WrittenAgain (file buffer block room : List ℕ) : Type 0 where
+  pub answer : writeAnswer buffer block room ≡ length file
+  pub bytes : writeBuffer buffer block room ≡ file ++ drop (length file) room
+
+abbrev pub ReadIsWritten : Type 0
+ReadIsWritten =
+    (file into : List ℕ) → AreBytes file → fileNumber file into ≡ 0
+    → (room : List ℕ) → length file ≤ length room
+    → WrittenAgain file (fileBuffer file into) (take (blockLength file) (drop (blockAt file) file)) room

@@ -9,6 +9,8 @@
 --     accessNumber                   panelrights_access
 --     fileNumber, fileBuffer         panelrights_read_file
 --     labelNumber                    panelrights_label
+--     blockNumber                    panelrights_labels
+--     writeAnswer, writeBuffer       panelrights_write_file
 --     lowest                         panelrights_lowest_mark (marks, Marks)
 --     runBuffer                      one call of panelrights_step after the other
 --     commandsBuffer                 one call of panelrights_step or panelrights_recipe after the other
@@ -27,7 +29,9 @@ use Rattle.recipes.specs.Run.{RecipeVerdict, recipeOf}
 use Rattle.recipes.specs.declared.Call.{Call}
 use Rattle.recipe_guarantees.specs.Commands.{Command, single, recipe}
 use Rattle.site_file.specs.Reading.{readOf}
-use Rattle.label_finder.specs.Finder.{textAt, textLength}
+use Rattle.label_finder.specs.Finder.{textAt, textLength, blockAt, blockLength}
+use Rattle.output.specs.declared.Written.{Written}
+use Rattle.site_encoding.specs.Writer.{writeOf, bufferAfter}
 
 -- ---- panelrights_founding
 -- "Writes the record of the founding state" .. "0; or 31 and no byte written, if state_len is not
@@ -36,7 +40,7 @@ abbrev pub foundingBuffer : (buffer : List ℕ) → List ℕ
 foundingBuffer buffer = stored buffer founding
 
 -- ---- what changes a record in place: a number by the state, 0 for what is accepted, and the state after it
--- "A record of another length, or with a byte other than 0 and 1, is 12."
+-- "A record of another length is 12."
 unfoldable pub answeredBy : (number : Site → ℕ) → (buffer : List ℕ) → ℕ
 answeredBy number buffer = cond (isRecord buffer) (number (stateOf buffer)) 12
 
@@ -92,6 +96,25 @@ fileBuffer file buffer = stored buffer (readOf file .state)
 -- "Where the text of the area's label stands in the file: offset * 65536 + length. 0 if there is none"
 abbrev pub labelNumber : (file : List ℕ) (a : ℕ) → ℕ
 labelNumber file a = textAt file a * 65536 + textLength file a
+
+-- ---- panelrights_labels
+-- "Where the label block of the file stands: offset * 65536 + length. 0 if the file is refused"
+abbrev pub blockNumber : (file : List ℕ) → ℕ
+blockNumber file = blockAt file * 65536 + blockLength file
+
+-- ---- panelrights_write_file
+-- "The length of the file" .. "or 65536 + n for refusal n"
+abbrev pub writtenNumber : Written → ℕ
+writtenNumber w = cond (eqb (w .refusal) 0) (w .length) (65536 + w .refusal)
+
+-- "A record of another length is 12."
+unfoldable pub writeAnswer : (buffer block file : List ℕ) → ℕ
+writeAnswer buffer block file =
+    cond (isRecord buffer) (writtenNumber (writeOf (stateOf buffer) block file)) (65536 + 12)
+
+-- "bytes past the length keep their content" .. "and no byte is changed"
+unfoldable pub writeBuffer : (buffer block file : List ℕ) → List ℕ
+writeBuffer buffer block file = cond (isRecord buffer) (bufferAfter (stateOf buffer) block file) file
 
 -- ---- a program that calls panelrights_step for one instruction after the other
 unfoldable pub runBuffer : (buffer : List ℕ) → List Bytes → List ℕ

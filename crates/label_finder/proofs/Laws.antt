@@ -1,12 +1,13 @@
 -- The claims of specs/Claims.antt and the laws of specs/Laws.antt, each proved under its name.
 -- Assumes nothing.
-use Prim.Native.Nat.{ℕ, _+_, _*_, _-_, _≤_, _<_, min}
-use mathlib.Core.Path.{_≡_, sym, ap, _∙_}
+use Prim.Native.Nat.{ℕ, _+_, _*_, _≤_, _<_}
+use mathlib.Core.Path.{_≡_, refl, sym, ap, _∙_}
 use mathlib.Core.Logic.{_⊎_, inl, inr}
 use mathlib.Core.Bool.{false}
 use mathlib.Core.List.{List}
 use native.Mathlib.Omega.{arith}
-use native.Mathlib.Decide.{decLt}
+use native.Mathlib.Decide.{decLt, ℕ-discrete}
+use borrow.Author.Tests.{ne-eqb}
 use lib.Dec.{T}
 use lib.ListN.{length, getD, take, drop, length-take, length-drop}
 use lib.Seq.{getD-take, getD-drop, ext-getD}
@@ -16,8 +17,8 @@ use Rattle.label_tables.proofs.Entries.{entry-long, entry-byte, text-there, tex
 use Rattle.label_tables.proofs.Laws.{label-found, label-there, label-area-fits, label-length-fits}
 use Rattle.site_format.specs.Format.{labels, offsetIn, sizeIn, part}
 use Rattle.site_file.specs.Reading.{fileRefusal}
-use Rattle.site_file.proofs.Checked.{checked, sized}
-use Rattle.label_finder.specs.Finder.{hasLabel, textAt, textLength, labelText}
+use Rattle.site_file.proofs.Checked.{checked, sized, lies}
+use Rattle.label_finder.specs.Finder.{hasLabel, textAt, textLength, labelText, blockAt, blockLength}
 use Rattle.label_finder.specs.Claims
 use Rattle.label_finder.specs.Laws
 use Rattle.label_finder.specs.Claims.{AtFront}
@@ -55,11 +56,7 @@ module _ (file : List ℕ) (e : fileRefusal file ≡ 0) (k : ℕ) (h : k < label
   text-within = label-length-fits (part file labels) k (checked file e .in-range labels) h .1
 
   entry-within : offsetIn file labels + (k * 32 + 32) ≤ length file
-  entry-within =
-      let n : length (part file labels) ≡ sizeIn file labels = sized file (checked file e) labels in
-      let m : length (part file labels) ≡ min (sizeIn file labels) (length (drop (offsetIn file labels) file)) = length-take (sizeIn file labels) (drop (offsetIn file labels) file) in
-      let d : length (drop (offsetIn file labels) file) ≡ length file - offsetIn file labels = length-drop (offsetIn file labels) file in
-      omega arith
+  entry-within = omega (arith, sized file (checked file e) labels, lies file (checked file e) labels .1)
 
 pub label-inside : Claims.LabelInside
 label-inside file a = go (test (hasLabel file a))
@@ -141,3 +138,30 @@ label-is-text file a e = go (decLt (entry file a) (labelCount table))
         ∙ label-part file (entry file a) e h .text
         ∙ sym (text-there table a h)
     go (no h) = at-front file a (λ t. h (an-entry file a t)) .text ∙ sym (text-none table a (omega arith))
+
+-- ---- the label block
+pub block-found : (file : List ℕ) → fileRefusal file ≡ 0 → (blockAt file ≡ offsetIn file labels) × (blockLength file ≡ sizeIn file labels)
+unfolding blockAt blockLength
+block-found file e = rw e (refl, refl)
+
+pub block-is-labels : Claims.BlockIsLabels
+block-is-labels file e =
+    let f = block-found file e in
+    record {
+      bytes = rw (f .0, f .1) refl;
+      long = sized file (checked file e) labels ∙ sym (f .1);
+      behind-header = rw (f .0) (lies file (checked file e) labels .0);
+    }
+
+pub no-block-refused : Claims.NoBlockRefused
+unfolding blockAt blockLength
+no-block-refused file ne = rw (ne-eqb (fileRefusal file) 0 ne) (refl, refl)
+
+pub block-small : Laws.BlockSmall
+block-small file bytes = go (ℕ-discrete (fileRefusal file) 0)
+  where
+    go : Dec (fileRefusal file ≡ 0) → blockAt file + blockLength file < 65536
+    go (yes e) =
+        let k = checked file e in
+        omega (arith, block-found file e, lies file k labels .1, k .length-stated, bytes 2, bytes 3)
+    go (no ne) = let f = no-block-refused file ne in rw (f .0, f .1) (omega arith)

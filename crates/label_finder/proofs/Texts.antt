@@ -1,4 +1,4 @@
--- The text of a label: where it is and how long, with a label and without.
+-- The text of a label: where it is and how long, with a label and without; and a place by its two parts.
 -- Assumes nothing.
 use Prim.Native.Nat.{ℕ, _+_, _*_, _<_}
 use mathlib.Core.Path.{_≡_, refl}
@@ -9,6 +9,10 @@ use Rattle.label_tables.specs.Labels.{labelCount, labelLength, labelIndex}
 use Rattle.site_format.specs.Format.{labels, offsetIn, part}
 use Rattle.site_file.specs.Reading.{fileRefusal}
 use Rattle.label_finder.specs.Finder.{hasLabel, textAt, textLength}
+use Rattle.label_finder.specs.declared.Place.{Place}
+
+pub same-place : {at length m n : ℕ} → at ≡ m → length ≡ n → _≡_ {A = Place} (record { at = at; length = length }) (record { at = m; length = n })
+same-place e f i = record { at = e i; length = f i }
 
 module _ (file : List ℕ) (a : ℕ) where
   -- the entry that is looked up

@@ -2,11 +2,11 @@
 use Prim.Native.Nat.{ℕ, _+_, _*_, _≤_, _<_}
 use mathlib.Core.Path.{_≡_}
 use mathlib.Core.List.{List, []}
-use lib.ListN.{length}
+use lib.ListN.{length, take, drop}
 use Rattle.label_tables.specs.Labels.{labelCount, labelArea, labelLength, entryText, labelOf}
 use Rattle.site_format.specs.Format.{labels, offsetIn, part}
 use Rattle.site_file.specs.Reading.{fileRefusal}
-use Rattle.label_finder.specs.Finder.{textAt, textLength, labelText}
+use Rattle.label_finder.specs.Finder.{textAt, textLength, labelText, blockAt, blockLength}
 
 -- the part for the area of entry k of the table, in a file that is accepted: it starts at byte 2 of the entry, and is
 -- the entry's text
@@ -46,3 +46,17 @@ NoLabelAbove = (file : List ℕ) (a : ℕ) → 32 ≤ a → AtFront file a
 -- the text lies in the file
 abbrev pub LabelInside : Type 0
 LabelInside = (file : List ℕ) (a : ℕ) → textAt file a + textLength file a ≤ length file
+
+-- ---- the label block
+-- of an accepted file it is the table of labels, and stands behind the header
+pub record BlockPart (file : List ℕ) : Type 0 where
+  pub bytes : take (blockLength file) (drop (blockAt file) file) ≡ part file labels
+  pub long : length (part file labels) ≡ blockLength file
+  pub behind-header : 28 ≤ blockAt file
+
+abbrev pub BlockIsLabels : Type 0
+BlockIsLabels = (file : List ℕ) → fileRefusal file ≡ 0 → BlockPart file
+
+-- of a refused one it is the part of length 0 at the file's front
+abbrev pub NoBlockRefused : Type 0
+NoBlockRefused = (file : List ℕ) → (fileRefusal file ≡ 0 → ⊥) → (blockAt file ≡ 0) × (blockLength file ≡ 0)

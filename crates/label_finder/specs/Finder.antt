@@ -6,7 +6,7 @@ use mathlib.Core.List.{List}
 use lib.Dec.{eqb, ltb}
 use lib.ListN.{take, drop}
 use Rattle.label_tables.specs.Labels.{labelSize, textStart, labelCount, labelLength, labelIndex}
-use Rattle.site_format.specs.Format.{labels, offsetIn, part}
+use Rattle.site_format.specs.Format.{labels, offsetIn, sizeIn, part}
 use Rattle.site_file.specs.Reading.{fileRefusal}
 use Rattle.label_finder.specs.declared.Place.{Place}
 
@@ -29,3 +29,14 @@ placeOf file a = record { at = textAt file a; length = textLength file a }
 -- the bytes of the text
 abbrev pub labelText : (file : List ℕ) (a : ℕ) → List ℕ
 labelText file a = take (textLength file a) (drop (textAt file a) file)
+
+-- ---- the label block of an accepted file, "a block of 32-byte label entries" (document 02, point 3): where it stands,
+-- and how many bytes it has; both are 0 for a refused file
+unfoldable pub blockAt : (file : List ℕ) → ℕ
+blockAt file = cond (eqb (fileRefusal file) 0) (offsetIn file labels) 0
+
+unfoldable pub blockLength : (file : List ℕ) → ℕ
+blockLength file = cond (eqb (fileRefusal file) 0) (sizeIn file labels) 0
+
+abbrev pub blockPlace : (file : List ℕ) → Place
+blockPlace file = record { at = blockAt file; length = blockLength file }

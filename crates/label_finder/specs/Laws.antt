@@ -5,7 +5,7 @@ use mathlib.Core.Bool.{false}
 use mathlib.Core.List.{List}
 use lib.Dec.{T}
 use Rattle.site_format.specs.Format.{AreBytes}
-use Rattle.label_finder.specs.Finder.{hasLabel, textAt, textLength}
+use Rattle.label_finder.specs.Finder.{hasLabel, textAt, textLength, blockAt, blockLength}
 use Rattle.label_finder.specs.Claims.{AtFront}
 
 -- no label stands at the front of the file, and an area with no label has the part there
@@ -18,3 +18,7 @@ NoLabelAtFront = (file : List ℕ) (a : ℕ) → hasLabel file a ≡ false → A
 -- an accepted file states its length in 16 bits, so these hold the place where the text ends
 abbrev pub LabelSmall : Type 0
 LabelSmall = (file : List ℕ) → AreBytes file → (a : ℕ) → textAt file a + textLength file a < 65536
+
+-- and the place where the label block ends
+abbrev pub BlockSmall : Type 0
+BlockSmall = (file : List ℕ) → AreBytes file → blockAt file + blockLength file < 65536

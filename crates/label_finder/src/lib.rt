@@ -1,16 +1,16 @@
-// The label finder: an area's label is a part of the caller's file.
+// The label finder: an area's label, and the block of all labels, are parts of the caller's file.
 ghost use mathlib.Core.Path.{_≡_};
 ghost use lib.Dec.{eqb};
 ghost use denote.Ref.{ptr};
 ghost use Rattle.site_format.specs.Format.{behind};
 ghost use Rattle.site_file.specs.Reading.{fileRefusal};
-ghost use Rattle.label_finder.specs.Finder.{textAt, placeOf, labelText};
+ghost use Rattle.label_finder.specs.Finder.{textAt, placeOf, labelText, blockPlace};
 use site_format::Table;
 
-// Where a text stands in a file: its first byte, and how many it has.
+// Where a part of a file stands: its first byte, and how many it has.
 pub struct Place {
     pub at: u16,
-    pub length: u8,
+    pub length: u16,
 }
 
 // Is the file accepted?
@@ -38,7 +38,7 @@ pub fn label_place(file: &[u8], area: u32) -> Place
     let layout = site_format::layout_of(Table::Labels);
     let from = site_format::field_at(file, layout.offset_at) as usize;
     let at = (from + (k * label_tables::LABEL_SIZE + label_tables::TEXT_AT)) as u16;
-    let length = table[k * label_tables::LABEL_SIZE + label_tables::LENGTH_AT];
+    let length = table[k * label_tables::LABEL_SIZE + label_tables::LENGTH_AT] as u16;
     Place { at, length }
 }
 
@@ -50,4 +50,17 @@ pub fn label(file: &[u8], area: u32) -> &[u8]
 {
     let place = label_place(file, area);
     site_format::part_from(file, place.at as usize, place.length as usize)
+}
+
+// Where the label block stands in the file, and how many bytes it has; both are 0 for a refused file.
+pub fn block_place(file: &[u8]) -> Place
+    ensures { λ r. ⌜ r ≡ blockPlace (now (file .entry)) ⌝ }
+{
+    if !is_accepted(file) {
+        return Place { at: 0, length: 0 };
+    }
+    let layout = site_format::layout_of(Table::Labels);
+    let at = site_format::field_at(file, layout.offset_at);
+    let length = site_format::field_at(file, layout.count_at) * layout.size;
+    Place { at, length }
 }

@@ -1,5 +1,6 @@
 -- A buffer that is too short for a text, and one that is not.
 --     short-written, short-buffer, fits-written, fits-buffer    what is answered, and the buffer
+--     laid-front                                                  a text that fits, from the buffer's front on
 --     counted-short, counted-fits                               both, where the text was counted over a buffer of no bytes
 -- Assumes nothing.
 use Prim.Native.Nat.{ℕ, _+_, _≤_, _<_}
@@ -27,12 +28,15 @@ module _ (text buffer : List ℕ) where
     unfolding writtenOf
     fits-written = rw (le-ltb (length buffer) (length text) fits) refl
 
-    pub fits-buffer : laid text 0 buffer ≡ bufferOf text buffer
-    unfolding laid bufferOf
-    fits-buffer =
+    pub laid-front : laid text 0 buffer ≡ text ++ drop (length text) buffer
+    unfolding laid
+    laid-front =
         let room : 0 + length text ≤ length buffer = omega arith in
-        rw (le-ltb (length buffer) (length text) fits)
-        (sets-eq text buffer 0 room ∙ ap (λ (k : ℕ). text ++ drop k buffer) (zero-add (length text)))
+        sets-eq text buffer 0 room ∙ ap (λ (k : ℕ). text ++ drop k buffer) (zero-add (length text))
+
+    pub fits-buffer : laid text 0 buffer ≡ bufferOf text buffer
+    unfolding bufferOf
+    fits-buffer = rw (le-ltb (length buffer) (length text) fits) laid-front
 
   -- the text was counted first; there is a bound on its length
   module _ (n : ℕ) (counted : n ≡ placeBehind 0 text) (bound : length text ≤ lastPlace) where

@@ -5,7 +5,7 @@ ghost use mathlib.Core.List.{[], _∷_};
 ghost use Rattle.output.specs.Decimal.{decimal};
 ghost use Rattle.output.specs.Buffer.{laid, placeBehind, writtenOf, bufferOf};
 
-// 31 where the buffer was too short, 0 else; and how many bytes were written.
+// The refusal, 0 for none (31 where the buffer was too short); and how many bytes were written.
 pub struct Written {
     pub refusal: u8,
     pub length: usize,

@@ -2,11 +2,12 @@
 -- Assumes nothing.
 use Prim.Native.Nat.{ℕ, zero, suc, _+_, _*_, _-_, _/_, _%_, _≤_, _<_}
 use mathlib.Core.Path.{_≡_, refl, sym, _∙_}
-use mathlib.Core.Bool.{Bool, true, false, _||_, or-true, or-false}
+use mathlib.Core.Bool.{Bool, true, false, _||_, cond, or-true, or-false}
 use mathlib.Core.List.{List}
 use native.Mathlib.Numerals.{add-one}
 use native.Mathlib.Omega.{arith}
 use native.Mathlib.Decide.{decLt}
+use borrow.Author.Tests.{lt-ltb, le-ltb}
 use lib.Dec.{T, ltb, lt→ltb}
 use lib.ListN.{length, getD, List·getD-eq-default}
 use lib.Seq.{take-length}
@@ -18,6 +19,7 @@ use Rattle.state.proofs.Ascending.{Ascends, ascends-by, at-most}
 use Rattle.state.proofs.Laws.{put-same, put-other}
 use Rattle.pair_tables.specs.Pairs.{pairSize, pairCount, firstByte, secondByte, pairFits, pairsFit, pairAscends, pairsAscend, isPairOf, hasPair, withSome, atPlace, tableOf}
 use Rattle.pair_tables.specs.Claims
+use Rattle.pair_tables.specs.Claims.{WithoutOne}
 use Rattle.pair_tables.specs.Laws
 use Rattle.pair_tables.proofs.Pairs.{placeOf, with-length, is-pair, is-pair-by, has-at, has-by, fits-at, earlier-at, earlier-by, TableTo, whole, below, unique}
 
@@ -50,6 +52,28 @@ at-place related i j p h e =
     let row : p / width ≡ i = omega arith in
     let column : p % width ≡ j = omega arith in
     rw (row, column) refl
+
+-- the areas but one, counted: those above the missing one come one earlier
+passing : (missing j : ℕ) → ℕ
+passing missing j = cond (ltb j missing) j (j - 1)
+
+passing-inside : (m j : ℕ) → m < width → j < width → (j ≡ m → ⊥) → passing m j < 31
+unfolding passing
+passing-inside m j hm hj ne = go (decLt j m)
+  where
+    go : Dec (j < m) → passing m j < 31
+    go (yes h) = rw (lt-ltb j m h) (omega arith)
+    go (no h) = rw (le-ltb j m (omega arith)) (omega arith)
+
+passing-up : (m j k : ℕ) → j < k → (j ≡ m → ⊥) → (k ≡ m → ⊥) → passing m j < passing m k
+unfolding passing
+passing-up m j k h ne nf = go (decLt j m) (decLt k m)
+  where
+    go : Dec (j < m) → Dec (k < m) → passing m j < passing m k
+    go (yes a) (yes b) = rw (lt-ltb j m a, lt-ltb k m b) h
+    go (yes a) (no b) = rw (lt-ltb j m a, le-ltb k m (omega arith)) (omega arith)
+    go (no a) (yes b) = absurd (omega arith)
+    go (no a) (no b) = rw (le-ltb j m (omega arith), le-ltb k m (omega arith)) (omega arith)
 
 -- a table with the relation's places
 module _ (bound : ℕ) (related : ℕ → ℕ → Bool) (t : List ℕ) (o : TableTo related (bound * width) t) where
@@ -107,6 +131,54 @@ module _ (bound : ℕ) (related : ℕ → ℕ → Bool) (t : List ℕ) (o : Tabl
               let f : secondByte t k ≡ secondByte t l = once (firstByte t l) (secondByte t k) (secondByte t l) (rw e at (met k (omega arith))) (met l b) in
               absurd (omega (arith, p))
 
+  -- where each first number is without some area
+  module _ (less : (i : ℕ) → i < bound → WithoutOne related i) where
+    missing : (i : ℕ) → Dec (i < bound) → ℕ
+    missing i (yes h) = less i h .missing
+    missing i (no h) = 0
+
+    -- the place of pair k where each row has 31 places
+    place : ℕ → ℕ
+    place k = firstByte t k * 31 + passing (missing (firstByte t k) (decLt (firstByte t k) bound)) (secondByte t k)
+
+    missing-inside : (i : ℕ) (d : Dec (i < bound)) → i < bound → missing i d < width
+    unfolding missing
+    missing-inside i (yes h) b = less i h .inside
+    missing-inside i (no h) b = absurd (h b)
+
+    not-missing : (i j : ℕ) (d : Dec (i < bound)) → i < bound → T (related i j) → j ≡ missing i d → ⊥
+    unfolding missing
+    not-missing i j (yes h) b m e = fails (less i h .absent) (rw e at m)
+    not-missing i j (no h) b m e = absurd (h b)
+
+    passing-below : (k : ℕ) → k < pairCount t → passing (missing (firstByte t k) (decLt (firstByte t k) bound)) (secondByte t k) < 31
+    passing-below k h =
+        let i = firstByte t k in
+        let d = decLt i bound in
+        passing-inside (missing i d) (secondByte t k) (missing-inside i d (first-below k h)) (o .areas k h)
+        (not-missing i (secondByte t k) d (first-below k h) (met k h))
+
+    count-less : pairCount t ≤ bound * 31
+    unfolding place
+    count-less = at-most place (pairCount t) (bound * 31) up (λ k h. omega (arith, first-below k h, passing-below k h))
+      where
+        up : Ascends place (pairCount t)
+        up k l h b = go (decLt (firstByte t k) (firstByte t l))
+          where
+            p : placeOf t k < placeOf t l
+            p = o .ordered .ascends k l h b
+
+            go : Dec (firstByte t k < firstByte t l) → place k < place l
+            go (yes c) = omega (arith, passing-below k (omega arith))
+            go (no c) =
+                let a : secondByte t l < width = o .areas l b in
+                let e : firstByte t k ≡ firstByte t l = omega (arith, p) in
+                let i = firstByte t l in
+                let d = decLt i bound in
+                let there : (j : ℕ) → T (related i j) → j ≡ missing i d → ⊥ = λ j. not-missing i j d (first-below l b) in
+                let q = passing-up (missing i d) (secondByte t k) (secondByte t l) (omega (arith, p)) (there _ (rw e at (met k (omega arith)))) (there _ (met l b)) in
+                rw e (omega (arith, q))
+
 pub table-whole : Laws.TableWhole
 table-whole bound related = whole related (bound * width)
 
@@ -124,6 +196,9 @@ table-count bound related = count bound related (tableOf bound related) (below r
 
 pub table-count-once : Claims.TableCountOnce
 table-count-once bound related = count-once bound related (tableOf bound related) (below related (bound * width))
+
+pub table-count-less : Claims.TableCountLess
+table-count-less bound related = count-less bound related (tableOf bound related) (below related (bound * width))
 
 pub pairs-are-bytes : Laws.PairsAreBytes
 pairs-are-bytes bound t i small full fit = go (decLt i (length t))

@@ -3,7 +3,7 @@
 -- a type, which proofs/Laws.antt inhabits under the claim's name.
 use Prim.Native.Nat.{ℕ, _*_, _≤_, _<_}
 use mathlib.Core.Path.{_≡_}
-use mathlib.Core.Bool.{Bool}
+use mathlib.Core.Bool.{Bool, false}
 use mathlib.Core.List.{List}
 use lib.Dec.{T}
 use Rattle.state.specs.Cells.{width}
@@ -24,6 +24,18 @@ abbrev pub TableCountOnce : Type 0
 TableCountOnce =
     (bound : ℕ) (related : ℕ → ℕ → Bool) → ((i j k : ℕ) → T (related i j) → T (related i k) → j ≡ k)
     → pairCount (tableOf bound related) ≤ bound
+
+-- where each first number is without some area, as an object is not imported by the area that defines it, no more than
+-- 31 for each
+pub record WithoutOne (related : ℕ → ℕ → Bool) (i : ℕ) : Type 0 where
+  pub missing : ℕ
+  pub inside : missing < width
+  pub absent : related i missing ≡ false
+
+abbrev pub TableCountLess : Type 0
+TableCountLess =
+    (bound : ℕ) (related : ℕ → ℕ → Bool) → ((i : ℕ) → i < bound → WithoutOne related i)
+    → pairCount (tableOf bound related) ≤ bound * 31
 
 -- ---- the single encoding of a relation: a whole table in range and ascending is the table of what it holds
 abbrev pub TableOfHeld : Type 0

@@ -1,24 +1,29 @@
--- The encoding of a sound state and lawful labels is accepted, and holds them.
+-- The encoding of a sound state and lawful labels is accepted, and holds them. How long it is at most.
 -- Assumes nothing.
 use Prim.Native.Nat.{ℕ, zero, suc, _+_, _*_, _/_, _≤_, _<_}
-use mathlib.Core.Path.{_≡_, sym, ap, subst, _∙_}
+use mathlib.Core.Path.{_≡_, refl, sym, ap, subst, _∙_}
+use mathlib.Core.Bool.{Bool, true, false}
 use mathlib.Core.List.{List, [], _∷_, _++_}
 use native.Mathlib.Nat.{mul-le-mul-right}
 use native.Mathlib.Omega.{arith}
 use lib.Dec.{T}
 use lib.ListN.{length, getD, length-append}
-use Rattle.state.specs.Site.{Kind, user, area, object, owner, definition, structure, import, export, limit, firstKind, related}
+use Rattle.state.specs.Site.{Kind, user, area, object, owner, definition, structure, import, export, limit, firstKind, listed, related}
 use Rattle.state.specs.Site.{Site}
+use Rattle.state.proofs.Bools.{is-false, holds, fails}
+use Rattle.state.proofs.Laws.{pair-area}
 use Rattle.soundness.specs.Sound.{Sound}
 use Rattle.soundness.proofs.Laws.{consistent-decided, valid-decided, no-own-import-decided}
 use Rattle.soundness.proofs.Names.{sound-lists, same-by-names}
+use Rattle.pair_tables.specs.Claims.{WithoutOne}
 use Rattle.pair_tables.specs.Pairs.{hasPair, tableOf}
-use Rattle.pair_tables.proofs.Laws.{pairs-are-bytes, table-whole, table-fits, table-ascends, table-holds, table-count, table-count-once}
+use Rattle.pair_tables.proofs.Laws.{pairs-are-bytes, table-whole, table-fits, table-ascends, table-holds, table-count, table-count-once, table-count-less}
 use Rattle.label_tables.proofs.Laws.{label-count-fits, labels-are-bytes}
 use Rattle.site_format.proofs.Tables.{content-of, pair-size}
 use Rattle.site_format.specs.Format.{AreBytes, headerSize, Content, pairsOf, labels, layoutOf, tables, field, countIn, sizeIn, part, contentFits, contentAscends}
 use Rattle.site_file.specs.Reading.{stateIn}
 use Rattle.site_encoding.specs.Encode.{Lawful, contentOf, bodyOf, countsOf, offsetsFrom, fieldBytes, fieldsOf, encode}
+use Rattle.site_encoding.specs.Claims.{mostBytes}
 use Rattle.site_encoding.proofs.Fields.{twice, field-written}
 use Rattle.site_encoding.proofs.Placed.{Stated, all-written, all-placed}
 use Rattle.site_file.proofs.Held.{derived, shaped, in-table, derived-lists, some-owner, not-twice}
@@ -55,18 +60,35 @@ limit-small user = omega arith
 limit-small area = omega arith
 limit-small object = omega arith
 
--- how many bytes tables can have
-abbrev mostBytes : List Content → ℕ
-mostBytes [] = 0
-mostBytes (c ∷ rest) = layoutOf c .most * layoutOf c .size + mostBytes rest
+-- how many elements the table of a sound state has at most: as many as there may be, but no area imports what it defines
+abbrev soundMost : Content → ℕ
+soundMost (pairsOf owner) = 1024
+soundMost (pairsOf definition) = 64
+soundMost (pairsOf structure) = 1024
+soundMost (pairsOf import) = 1984
+soundMost (pairsOf export) = 2048
+soundMost labels = 32
 
-most-small : (c : Content) → layoutOf c .most < 65536
+may-be : (c : Content) → soundMost c ≤ layoutOf c .most
+may-be (pairsOf owner) = omega arith
+may-be (pairsOf definition) = omega arith
+may-be (pairsOf structure) = omega arith
+may-be (pairsOf import) = omega arith
+may-be (pairsOf export) = omega arith
+may-be labels = omega arith
+
+most-small : (c : Content) → soundMost c < 65536
 most-small (pairsOf owner) = omega arith
 most-small (pairsOf definition) = omega arith
 most-small (pairsOf structure) = omega arith
 most-small (pairsOf import) = omega arith
 most-small (pairsOf export) = omega arith
 most-small labels = omega arith
+
+-- how many bytes tables have at most
+abbrev soundMostOf : List Content → ℕ
+soundMostOf [] = 0
+soundMostOf (c ∷ rest) = soundMost c * layoutOf c .size + soundMostOf rest
 
 module _ (s : Site) (l : List ℕ) (h : Sound s) (law : Lawful s l) where
   -- ---- how long the tables are
@@ -75,11 +97,26 @@ module _ (s : Site) (l : List ℕ) (h : Sound s) (law : Lawful s l) where
       let d = h .acceptable .objects o (h .consistent definition o a p .first) in
       d .only a p ∙ sym (d .only b q)
 
-  count : (c : Content) → length (contentOf s l c) / layoutOf c .size ≤ layoutOf c .most
+  -- an object is not imported by the area that defines it, and by none if it is not listed
+  some-other : (o : ℕ) → o < 64 → WithoutOne (related s import) o
+  some-other o b = go (listed s object o) refl
+    where
+      go : (t : Bool) → listed s object o ≡ t → WithoutOne (related s import) o
+      go true e =
+          let d = h .acceptable .objects o (holds e) in
+          record {
+            missing = d .place;
+            inside = pair-area (s .definitions) o (d .place) (d .defined);
+            absent = is-false (related s import o (d .place)) (λ t. h .no-own-import o (d .place) t (d .defined));
+          }
+      go false e =
+          record { missing = 0; inside = omega arith; absent = is-false (related s import o 0) (λ t. fails e (h .consistent import o 0 t .first)) }
+
+  count : (c : Content) → length (contentOf s l c) / layoutOf c .size ≤ soundMost c
   count (pairsOf owner) = table-count 32 (related s owner)
   count (pairsOf definition) = table-count-once 64 (related s definition) defined-once
   count (pairsOf structure) = table-count 32 (related s structure)
-  count (pairsOf import) = table-count 64 (related s import)
+  count (pairsOf import) = table-count-less 64 (related s import) some-other
   count (pairsOf export) = table-count 64 (related s export)
   count labels = label-count-fits l (law .block .in-range) (law .block .ascending)
 
@@ -87,10 +124,10 @@ module _ (s : Site) (l : List ℕ) (h : Sound s) (law : Lawful s l) where
   whole (pairsOf r) = rw (pair-size r) (table-whole (limit (firstKind r)) (related s r))
   whole labels = law .block .whole
 
-  size-fits : (c : Content) → length (contentOf s l c) ≤ layoutOf c .most * layoutOf c .size
+  size-fits : (c : Content) → length (contentOf s l c) ≤ soundMost c * layoutOf c .size
   size-fits c = rw (whole c) (mul-le-mul-right (layoutOf c .size) (count c))
 
-  body-fits : (cs : List Content) → length (bodyOf s l cs) ≤ mostBytes cs
+  body-fits : (cs : List Content) → length (bodyOf s l cs) ≤ soundMostOf cs
   body-fits [] = omega arith
   body-fits (c ∷ rest) = rw (length-append (contentOf s l c) (bodyOf s l rest)) (omega (arith, size-fits c, body-fits rest))
 
@@ -102,8 +139,11 @@ module _ (s : Site) (l : List ℕ) (h : Sound s) (law : Lawful s l) where
   small-offsets [] at b = tt
   small-offsets (c ∷ rest) at b = (omega arith, small-offsets rest (at + length (contentOf s l c)) (omega (arith, length-append (contentOf s l c) (bodyOf s l rest))))
 
+  body-most : headerSize + length (bodyOf s l tables) ≤ mostBytes
+  body-most = let b : length (bodyOf s l tables) ≤ soundMostOf tables = body-fits tables in omega arith
+
   body-small : headerSize + length (bodyOf s l tables) < 65536
-  body-small = let b : length (bodyOf s l tables) ≤ 13440 = body-fits tables in omega arith
+  body-small = omega (arith, body-most)
 
   small : Small (fieldsOf s l)
   small = (omega arith, (body-small, small-append (countsOf s l tables) (offsetsFrom headerSize s l tables) (small-counts tables) (small-offsets tables headerSize body-small)))
@@ -173,6 +213,9 @@ module _ (s : Site) (l : List ℕ) (h : Sound s) (law : Lawful s l) where
     file-long : length file ≡ headerSize + length (bodyOf s l tables)
     file-long = ap length e ∙ length-append (fieldBytes (fieldsOf s l)) (bodyOf s l tables)
 
+    pub at-most : length file ≤ mostBytes
+    at-most = rw file-long body-most
+
     fits : (c : Content) → T (contentFits c (contentOf s l c))
     fits (pairsOf r) = table-fits (limit (firstKind r)) (related s r)
     fits labels = law .block .in-range
@@ -196,7 +239,7 @@ module _ (s : Site) (l : List ℕ) (h : Sound s) (law : Lawful s l) where
           header-long = omega (arith, file-long);
           version-known = at-field 0 (omega arith);
           length-stated = at-field 1 (omega arith) ∙ sym file-long;
-          counts-fit = λ c. rw (counted c) (count c);
+          counts-fit = λ c. rw (counted c) (omega (arith, count c, may-be c));
           placed = all-placed file s l tables (fieldBytes (fieldsOf s l)) e stated;
           in-range = in-range;
           ascends = λ c. subst (λ (t : List ℕ). T (contentAscends c t)) (sym (written c)) (ascends c);

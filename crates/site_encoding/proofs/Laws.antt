@@ -1,8 +1,9 @@
 -- The claims of specs/Claims.antt, each proved under its name.
 -- Assumes nothing.
-use Prim.Native.Nat.{ℕ}
+use Prim.Native.Nat.{ℕ, _≤_}
 use mathlib.Core.Path.{_≡_, sym, subst, _∙_, refl}
 use mathlib.Core.List.{List}
+use lib.ListN.{length}
 use Rattle.state.specs.Site.{Site}
 use Rattle.label_tables.specs.Labels.{LawfulBlock}
 use Rattle.label_tables.proofs.Laws.{one-block}
@@ -66,3 +67,12 @@ encode-bytes s l h law = Encoded.are-bytes s l h law
 
 pub encode-accepted : Claims.EncodeAccepted
 encode-accepted s l h law = acceptance (encode s l) s l (record { sound = h; lawful = law; encoded = refl })
+
+pub encode-most : Claims.EncodeMost
+unfolding encode
+encode-most s l h law = Encoded.at-most s l h law (encode s l) refl
+
+pub accepted-most : Claims.AcceptedMost
+accepted-most file bytes ok =
+    let e = encoding file bytes (readOf file .state) (part file labels) (record { no-refusal = ok; state = refl; block = refl }) in
+    subst (λ (f : List ℕ). length f ≤ Claims.mostBytes) (sym (e .encoded)) (encode-most _ _ (e .sound) (e .lawful))

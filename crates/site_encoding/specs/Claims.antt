@@ -1,9 +1,10 @@
 -- What is claimed of the encoding: a file is accepted exactly when it is the single encoding of a sound state and its
 -- labels. Each claim is a type, which proofs/Laws.antt inhabits under the claim's name.
-use Prim.Native.Nat.{ℕ}
+use Prim.Native.Nat.{ℕ, _≤_}
 use mathlib.Core.Path.{_≡_}
 use mathlib.Core.Logic.{_↔_}
 use mathlib.Core.List.{List}
+use lib.ListN.{length}
 use Rattle.state.specs.Site.{Site}
 use Rattle.soundness.specs.Sound.{Sound}
 use Rattle.site_format.specs.Format.{AreBytes, labels, part}
@@ -47,3 +48,15 @@ EncodeBytes = (s : Site) (l : List ℕ) → Sound s → Lawful s l → AreBytes 
 
 abbrev pub EncodeAccepted : Type 0
 EncodeAccepted = (s : Site) (l : List ℕ) → Sound s → Lawful s l → Accepted (encode s l) s l
+
+-- No accepted file has more than 13,340 bytes: the header's 28, and two for each of 1,024 owner pairs, 64 definitions,
+-- 1,024 structure pairs, 1,984 imports and 2,048 exports, and 32 for each of 32 labels. For no area imports what it
+-- defines (document 02, point 4), so an object has 31 importers at most.
+abbrev pub mostBytes : ℕ
+mostBytes = 13340
+
+abbrev pub EncodeMost : Type 0
+EncodeMost = (s : Site) (l : List ℕ) → Sound s → Lawful s l → length (encode s l) ≤ mostBytes
+
+abbrev pub AcceptedMost : Type 0
+AcceptedMost = (file : List ℕ) → AreBytes file → fileRefusal file ≡ 0 → length file ≤ mostBytes

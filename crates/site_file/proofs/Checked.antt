@@ -1,6 +1,6 @@
 -- A file is accepted exactly when each check is passed: what the refusals say together.
 --     checked, accepted            from no refusal, and to no refusal
---     state-sound, sized           what follows of the state and of the tables
+--     state-sound, sized, lies     what follows of the state and of the tables
 -- Assumes nothing.
 use Prim.Native.Nat.{ℕ, _≤_}
 use mathlib.Core.Path.{_≡_, refl, ap, ap₂, _∙_}
@@ -19,7 +19,7 @@ use Rattle.state.specs.Site.{Site, definition}
 use Rattle.label_tables.specs.Labels.{labelsListed}
 use Rattle.site_format.specs.Format.{headerSize, Content, labels, layoutOf, tables, field, countIn, sizeIn, part, contentFits, contentAscends}
 use Rattle.site_format.proofs.Tables.{test-of, by-test}
-use Rattle.site_header.proofs.Laws.{part-size}
+use Rattle.site_header.proofs.Laws.{Lies, part-size, part-lies}
 use Rattle.site_header.specs.Header.{countsFit, placedFrom, headerChecks}
 use Rattle.site_file.specs.Claims
 use Rattle.site_file.specs.Reading.{tablesFit, tablesAscend, stateIn, noOwner, namesUnlisted, definedTwice, tableChecks, stateChecks, fileChecks, fileRefusal, readOf}
@@ -137,13 +137,17 @@ own-import-is-29 file k o a p d = by-state file (k .no-refusal) ∙ passed _ _ n
         is-true (not (isValid s) || not (noOwnImport s))
         (or-right (not (isValid s)) (not (noOwnImport s)) (so-not (noOwnImport s) (λ t. no-own-import-decided s .0 t o a p d)))
 
--- The state of a file that passes each check is sound, and each of its tables has the bytes that its count says.
+-- The state of a file that passes each check is sound; each of its tables has the bytes that its count says, and lies
+-- behind the header and within the file.
 module _ (file : List ℕ) (k : Checked file) where
   pub state-sound : Sound (stateIn file)
   state-sound = sound-by (stateIn file) (derived file) (shaped file) (k .owned) (k .named) (k .defined-once) (k .valid) (k .no-own-import)
 
   pub sized : (c : Content) → length (part file c) ≡ sizeIn file c
   sized = part-size file (k .placed)
+
+  pub lies : (c : Content) → Lies file c
+  lies = part-lies file (k .placed)
 
 -- the state of a file that is accepted
 pub state-read : (file : List ℕ) → fileRefusal file ≡ 0 → readOf file .state ≡ stateIn file

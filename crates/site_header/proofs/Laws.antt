@@ -37,6 +37,17 @@ module _ (file : List ℕ) where
           length-take (sizeIn file c) (drop (offsetIn file c) file)
           ∙ rw (length-drop (offsetIn file c) file, e) (omega arith)
 
+  -- each table stands behind the header, and ends within the file
+  abbrev pub Lies : Content → Type 0
+  Lies c = (headerSize ≤ offsetIn file c) × (offsetIn file c + sizeIn file c ≤ length file)
+
+  all-lie : (cs : List Content) (at : ℕ) → headerSize ≤ at → T (placedFrom file cs at) → Each Lies cs
+  all-lie [] at h t = tt
+  all-lie (c ∷ rest) at h t =
+      let e : offsetIn file c ≡ at = at-offset c rest at t in
+      let ends : at + sizeIn file c ≤ length file = inside rest (at + sizeIn file c) (behind-it c rest at t) in
+      ((omega arith, omega arith), all-lie rest (at + sizeIn file c) (omega arith) (behind-it c rest at t))
+
   rest-joined : (cs : List Content) (at : ℕ) → T (placedFrom file cs at) → drop at file ≡ joined file cs
   rest-joined [] at t = ap (λ (n : ℕ). drop n file) (eqb→eq at (length file) t) ∙ drop-length file
   rest-joined (c ∷ rest) at t =
@@ -49,3 +60,6 @@ no-gap file t = rest-joined file tables headerSize t
 
 pub part-size : Claims.PartSize
 part-size file t = content-of (λ c. length (part file c) ≡ sizeIn file c) (all-sized file tables headerSize t)
+
+pub part-lies : (file : List ℕ) → T (placedFrom file tables headerSize) → (c : Content) → Lies file c
+part-lies file t = content-of (Lies file) (all-lie file tables headerSize (omega arith) t)

@@ -1,9 +1,14 @@
-//! For the handover of a site: who may change what, and who sees which table over how many steps.
-//! Usage: `handover FILE`. The exit status is 0; 1 if the library refuses the file; 2 if it can't be read.
+//! For the handover of a site: who may change what, and who sees which table over how many steps. With `--change` the
+//! instructions on standard input are obeyed first, all of them or none, and the file is saved.
+//! Usage: `handover [--change] FILE`. The exit status is 0; 1 if the library refuses the file or an instruction, or a
+//! line is unreadable; 2 for bad usage, for more than 65,536 bytes of instructions, and if something can't be read or
+//! written.
 
+mod change;
 #[path = "../../site.rs"]
 mod site;
 
+use change::{change, NotChanged};
 use site::{failed, finished, load, refused, Site};
 use std::env;
 use std::fmt;
@@ -46,15 +51,24 @@ impl fmt::Display for Handover {
 
 fn main() -> ExitCode {
     let arguments: Vec<_> = env::args_os().skip(1).collect();
-    let [name] = arguments.as_slice() else {
-        return failed("usage: handover FILE");
+    let (name, changes) = match arguments.as_slice() {
+        [name] if name != "--change" => (name, false),
+        [option, name] if option == "--change" => (name, true),
+        _ => return failed("usage: handover [--change] FILE"),
     };
     let Ok(file) = load(name) else {
         return failed("handover: the file can't be read");
     };
-    let report = match Site::read(file) {
-        Ok(site) => Ok(Handover(site).to_string()),
-        Err(refusal) => Err(refused(refusal.number(), refusal)),
+    let mut site = match Site::read(&file) {
+        Ok(site) => site,
+        Err(refusal) => return finished(Err(refused(refusal.number(), refusal)), "handover"),
     };
-    finished(report, "handover")
+    if changes {
+        match change(&mut site, name) {
+            Ok(()) => {}
+            Err(NotChanged::Refused(words)) => return finished(Err(words), "handover"),
+            Err(NotChanged::Failed(what)) => return failed(&format!("handover: {what}")),
+        }
+    }
+    finished(Ok(Handover(site).to_string()), "handover")
 }

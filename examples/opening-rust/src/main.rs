@@ -71,7 +71,7 @@ impl fmt::Display for Opened {
     }
 }
 
-fn open(file: Vec<u8>, call: Call) -> Result<Opened, String> {
+fn open(file: &[u8], call: Call) -> Result<Opened, String> {
     let mut site = Site::read(file).map_err(|refusal| refused(refusal.number(), refusal))?;
     let parameters = [call.school, call.hall, call.keyholder, call.table];
     site.state.recipe(&OPENING, call.activator, parameters).map_err(told)?;
@@ -103,6 +103,6 @@ fn main() -> ExitCode {
     let Ok(file) = load(name) else {
         return failed("opening: the file can't be read");
     };
-    let opened = open(file, Call { activator, school, hall, keyholder, table });
+    let opened = open(&file, Call { activator, school, hall, keyholder, table });
     finished(opened.map(|opened| opened.to_string()), "opening")
 }

@@ -51,6 +51,16 @@ pub enum Case<'a> {
         file: Cow<'a, [u8]>,
         area: u32,
     },
+    /// Where the label block of a site file stands.
+    Labels {
+        file: Cow<'a, [u8]>,
+    },
+    /// A record and a label block, written into a buffer of so many bytes.
+    Write {
+        site: Cow<'a, Site>,
+        block: Cow<'a, [u8]>,
+        buffer_len: usize,
+    },
     Mark {
         marks: u8,
     },
@@ -119,6 +129,20 @@ impl<'a> Case<'a> {
         }
     }
 
+    pub fn labels(file: &'a [u8]) -> Case<'a> {
+        Case::Labels {
+            file: Cow::Borrowed(file),
+        }
+    }
+
+    pub fn write(site: &'a Site, block: &'a [u8], buffer_len: usize) -> Case<'a> {
+        Case::Write {
+            site: Cow::Borrowed(site),
+            block: Cow::Borrowed(block),
+            buffer_len,
+        }
+    }
+
     pub fn program(input: &'a [u8]) -> Case<'a> {
         Case::Program {
             input: Cow::Borrowed(input),
@@ -137,6 +161,8 @@ impl<'a> Case<'a> {
             Case::Commands { .. } => "commands",
             Case::Read { .. } => "read",
             Case::Label { .. } => "label",
+            Case::Labels { .. } => "labels",
+            Case::Write { .. } => "write",
             Case::Mark { .. } => "mark",
             Case::Program { .. } => "program",
         }
@@ -153,6 +179,12 @@ impl<'a> Case<'a> {
             Case::Commands { site, list } => commands::run_by_library(site, list),
             Case::Read { file, buffer_len } => library::read_file(file, *buffer_len),
             Case::Label { file, area } => library::label(file, *area),
+            Case::Labels { file } => library::labels(file),
+            Case::Write {
+                site,
+                block,
+                buffer_len,
+            } => library::write_file(&site.record, block, *buffer_len),
             Case::Mark { marks } => Answer::new(library::lowest_mark(*marks), vec![]),
             Case::Program { input } => program::run_program(input),
         }
@@ -169,6 +201,12 @@ impl<'a> Case<'a> {
             Case::Commands { site, list } => expected::run_commands(site, list),
             Case::Read { file, buffer_len } => expected::read_file(file, *buffer_len),
             Case::Label { file, area } => expected::label(file, *area),
+            Case::Labels { file } => expected::labels(file),
+            Case::Write {
+                site,
+                block,
+                buffer_len,
+            } => expected::write_file(site, block, *buffer_len),
             Case::Mark { marks } => Answer::new(reference::lowest_mark(*marks), vec![]),
             Case::Program { input } => Answer::new(0_u32, reference::transcript(input)),
         }

@@ -2,8 +2,9 @@
 
 use crate::answer::Answer;
 use crate::case::Case;
+use crate::expected::WRITE_REFUSED;
 use crate::places::{bit, meaning, PLACES};
-use crate::text::state_text;
+use crate::text::{bytes_text, state_text};
 use reference::RECORD_BYTES;
 use std::fmt::Display;
 
@@ -25,7 +26,9 @@ pub fn difference_text(case: &Case, library: &Answer, reference: &Answer) -> Str
 pub fn answer_text(case: &Case, answer: &Answer) -> String {
     let number = answer.number;
     let mut text = match case {
-        Case::Label { .. } => format!("offset {}, length {}", number >> 16, number & 0xffff),
+        Case::Label { .. } | Case::Labels { .. } => format!("offset {}, length {}", number >> 16, number & 0xffff),
+        Case::Write { .. } if number >= WRITE_REFUSED => format!("refused with {}", number - WRITE_REFUSED),
+        Case::Write { .. } => format!("a file of {number} bytes"),
         Case::Recipe { .. } => format!("{} at place {}", number & 0xff, number >> 8),
         _ => number.to_string(),
     };
@@ -35,10 +38,11 @@ pub fn answer_text(case: &Case, answer: &Answer) -> String {
     text
 }
 
-/// The whole content: a state by its sets, other bytes as text.
+/// The whole content: a state by its sets, a buffer in hexadecimal, other bytes as text.
 pub fn content_text(case: &Case, answer: &Answer) -> String {
     match case {
         Case::Program { .. } | Case::Label { .. } => String::from_utf8_lossy(&answer.bytes).into_owned(),
+        Case::Labels { .. } | Case::Write { .. } => bytes_text(&answer.bytes),
         _ => match reference::from_record(&answer.bytes) {
             Some(state) => state_text(&state),
             None => format!("{} bytes, no record", answer.bytes.len()),
@@ -53,8 +57,9 @@ fn bytes_difference(case: &Case, library: &[u8], reference: &[u8]) -> String {
     if library.len() != reference.len() {
         return format!("{} bytes and {} bytes", library.len(), reference.len());
     }
+    let is_record = library.len() == RECORD_BYTES && !matches!(case, Case::Labels { .. } | Case::Write { .. });
     let named: Vec<String> = match library.len() {
-        RECORD_BYTES => {
+        _ if is_record => {
             let of_both = |place: usize| [bit(library, place), bit(reference, place)];
             let differing = differing(PLACES, of_both);
             differing.map(|(place, both)| text(meaning(place), both)).collect()

@@ -1,7 +1,7 @@
 //! What the reference says a caller of panelrights.h gets.
 
 use crate::answer::Answer;
-use crate::library::UNWRITTEN;
+use crate::library::{before_writing, UNWRITTEN};
 use crate::site::Site;
 use reference::{Call, Command, State, RECORD_BYTES};
 
@@ -9,6 +9,9 @@ use reference::{Call, Command, State, RECORD_BYTES};
 const STATE_LENGTH: u32 = 31;
 const NO_ACCESS: u32 = 255;
 const ACCESS_REFUSED: u32 = 256;
+
+/// What the writer adds to a refusal, so that it is no length.
+pub const WRITE_REFUSED: u32 = 65536;
 
 fn founding_record() -> Vec<u8> {
     reference::to_record(&State::founding())
@@ -89,6 +92,26 @@ pub fn label(file: &[u8], area: u32) -> Answer {
         .ok()
         .and_then(|(_, labels)| labels.get(&u8::try_from(area).ok()?).cloned());
     Answer::new((offset * 65536 + length) as u32, text.unwrap_or_default())
+}
+
+/// The place of the label block, and its bytes.
+pub fn labels(file: &[u8]) -> Answer {
+    let (offset, length) = reference::label_block(file);
+    Answer::new((offset * 65536 + length) as u32, file[offset..offset + length].to_vec())
+}
+
+/// The length of the file or the refusal, and the whole buffer.
+pub fn write_file(site: &Site, block: &[u8], buffer_len: usize) -> Answer {
+    let mut buffer = before_writing(buffer_len);
+    let written = match &site.state {
+        Some(state) => reference::write(state, block, &mut buffer),
+        None => reference::write_record(&site.record, block, &mut buffer),
+    };
+    let number = match written {
+        Ok(length) => length as u32,
+        Err(refusal) => WRITE_REFUSED + u32::from(refusal),
+    };
+    Answer::new(number, buffer)
 }
 
 pub fn run(site: &Site, list: &[[u8; 4]]) -> Answer {

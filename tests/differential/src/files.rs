@@ -1,15 +1,17 @@
-//! Site files, right and damaged, and the labels in them.
+//! Site files, right and damaged, and the labels in them. Each accepted file is written again.
 
+use crate::answer::Answer;
 use crate::borders::{entry_lengths, is_one_step_too_far, is_small};
 use crate::byte_damage::BYTE_DAMAGES;
 use crate::case::Case;
 use crate::chains::MOST_STEPS;
 use crate::draft::{random_labels, random_text, Draft, IMPORTS};
+use crate::library;
 use crate::numbers::{widened, Pairs};
 use crate::own_imports::{has_own, is_only_own};
 use crate::seen::Seen;
 use crate::shards::Plan;
-use crate::site::OTHER_LENGTHS;
+use crate::site::{Site, OTHER_LENGTHS};
 use crate::states::{sound_state, Shape};
 use crate::table_damage::{entry_too_far, own_import, TABLE_DAMAGES};
 use chance::Chance;
@@ -60,6 +62,12 @@ fn require(seen: &mut Seen) {
     seen.require("largest file", [0, 29, 24], 8);
     seen.require("label above 255", [0], 5000);
     seen.require("labelled but for 256 or more", [0], 2000);
+    seen.require("label block, entries", [0, 1, 2, 32], 200);
+    seen.require("labels", [0], 20_000);
+    seen.demand(
+        seen.total("round trip") == seen.times("read", 0),
+        "every accepted file makes the round trip",
+    );
 }
 
 fn line(seen: &Seen) -> String {
@@ -67,7 +75,8 @@ fn line(seen: &Seen) -> String {
         "{} files, answers 0, 21 to 29, 31: {:?}; accepted with an entry at 8 steps: {}, with nothing wrong but an \
          entry at 9 steps: {}, but an own import: {}, with an own import and 26, 27, 28: {:?}; \
          about the largest, answers 0, 29, 24: {:?}; \
-         {} labels asked for, {} found, {} for an area above 255, {} of areas with one in files with an own import",
+         {} labels asked for, {} found, {} for an area above 255, {} of areas with one in files with an own import; \
+         label blocks of 0, 1, 2, 32 entries: {:?}, none in a refused file: {}; round trips: {}",
         seen.total("read"),
         seen.each("read", [0].into_iter().chain(21..=29).chain([31])),
         seen.times("file with an entry at 8 steps", 0),
@@ -79,6 +88,9 @@ fn line(seen: &Seen) -> String {
         seen.total("label") - seen.times("label", 0),
         seen.total("label above 255"),
         seen.times("labelled but for an own import", 0),
+        seen.each("label block, entries", [0, 1, 2, 32]),
+        seen.times("labels", 0),
+        seen.total("round trip"),
     )
 }
 
@@ -125,12 +137,9 @@ fn about_the_largest(largest: &Draft, chance: &mut Chance, seen: &mut Seen) {
         .collect();
     too_many.tables[IMPORTS].resize(2049, vec![63, 31]);
     for (draft, expected) in [(largest, 0), (&one_own, 29), (&every, 29), (&too_many, 24)] {
-        if let Some(answer) = seen.compare(&Case::read(&draft.bytes(), RECORD_BYTES)) {
-            seen.demand(
-                answer.number == expected,
-                "the answers to the largest file and those about it",
-            );
-            seen.count("largest file", answer.number);
+        if let Some(number) = compare_read(&draft.bytes(), seen) {
+            seen.demand(number == expected, "the answers to the largest file and those about it");
+            seen.count("largest file", number);
         }
     }
 }
@@ -217,19 +226,38 @@ fn count_about_the_limit(state: &State, answer: u32, seen: &mut Seen) {
     }
 }
 
+/// The reader, whose answer it gives, and where the label block stands. An accepted file is written again.
+fn compare_read(file: &[u8], seen: &mut Seen) -> Option<u32> {
+    let read = seen.compare(&Case::read(file, RECORD_BYTES));
+    let labels = seen.compare(&Case::labels(file));
+    let (read, labels) = (read?, labels?);
+    if read.number == 0 {
+        seen.count("label block, entries", labels.bytes.len() as u32 / 32);
+        write_again(file, &read.bytes, &labels.bytes, seen);
+    }
+    Some(read.number)
+}
+
+/// The record and the label block that the library has given for the file: from both it writes the file.
+fn write_again(file: &[u8], record: &[u8], block: &[u8], seen: &mut Seen) {
+    let again = reference::read_file(file).map(|(state, labels)| reference::write_file(&state, &labels));
+    seen.demand(
+        again.as_deref() == Ok(file),
+        "an accepted file is the one that the reference writes",
+    );
+    let site = Site::of_bytes(record.to_vec());
+    let case = Case::write(&site, block, file.len());
+    let library = library::write_file(record, block, file.len());
+    let the_file = Answer::new(file.len() as u32, file.to_vec());
+    if seen.compare_answers(&case, library, the_file).is_some() {
+        seen.count("round trip", 0);
+    }
+}
+
 /// The reader, whose answer it gives, and the label finder: for every area in some files, for two in the others; and
 /// for an area above 255.
 fn compare_file(file: &[u8], labels: &Labels, chance: &mut Chance, seen: &mut Seen) -> Option<u32> {
-    let read = seen
-        .compare(&Case::read(file, RECORD_BYTES))
-        .map(|answer| answer.number);
-    if read == Some(0) {
-        let again = reference::read_file(file).map(|(state, labels)| reference::write_file(&state, &labels));
-        seen.demand(
-            again.as_deref() == Ok(file),
-            "an accepted file is the one that the reference writes",
-        );
-    }
+    let read = compare_read(file, seen);
     let labelled: Vec<u8> = labels.keys().copied().chain([255]).collect();
     let areas: Vec<u32> = match chance.once_in(12) {
         true => (0..=33).chain([255]).collect(),

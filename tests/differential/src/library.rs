@@ -11,6 +11,11 @@ const GUARD: u8 = 0x5a;
 /// What a buffer holds before a call that is to write it: few records have such a byte, so that one left alone shows.
 pub const UNWRITTEN: u8 = 0xaa;
 
+/// What a buffer holds before a file is written there: bytes that no table of a file has, and neighbours that differ.
+pub fn before_writing(buffer_len: usize) -> Vec<u8> {
+    (0..buffer_len).map(|place| 128 + (place % 127) as u8).collect()
+}
+
 /// A buffer between guard bytes.
 struct Guarded {
     bytes: Vec<u8>,
@@ -118,15 +123,44 @@ pub fn label(file: &[u8], area: u32) -> Answer {
     let mut lent = Guarded::new(file);
     // SAFETY: so many bytes may be read there.
     let number = unsafe { sys::panelrights_label(lent.pointer(), file.len(), area) };
+    let mut answer = found(file, number);
+    complain_of_change(&mut answer, &lent, file);
+    answer
+}
+
+/// The bytes are the label block.
+pub fn labels(file: &[u8]) -> Answer {
+    let mut lent = Guarded::new(file);
+    // SAFETY: so many bytes may be read there.
+    let number = unsafe { sys::panelrights_labels(lent.pointer(), file.len()) };
+    let mut answer = found(file, number);
+    complain_of_change(&mut answer, &lent, file);
+    answer
+}
+
+/// The part of the file that the number tells.
+fn found(file: &[u8], number: u32) -> Answer {
     let (offset, length) = ((number >> 16) as usize, (number & 0xffff) as usize);
-    let mut answer = match file.get(offset..offset + length) {
-        Some(text) => Answer::new(number, text.to_vec()),
+    match file.get(offset..offset + length) {
+        Some(part) => Answer::new(number, part.to_vec()),
         None => Answer {
-            complaint: "the label stands outside the file".to_string(),
+            complaint: "the part stands outside the file".to_string(),
             ..Answer::new(number, vec![])
         },
-    };
-    complain_of_change(&mut answer, &lent, file);
+    }
+}
+
+/// Into a buffer of so many bytes, all of which are in the answer.
+pub fn write_file(record: &[u8], block: &[u8], buffer_len: usize) -> Answer {
+    let mut buffer = Guarded::new(&before_writing(buffer_len));
+    let (mut state, mut labels) = (Guarded::new(record), Guarded::new(block));
+    let [record_at, block_at, file] = [&mut state, &mut labels, &mut buffer].map(Guarded::pointer);
+    let (record_len, block_len) = (record.len(), block.len());
+    // SAFETY: so many bytes may be read in the first two, and read and written in the third; they are three.
+    let number = unsafe { sys::panelrights_write_file(record_at, record_len, block_at, block_len, file, buffer_len) };
+    let mut answer = buffer.answer(number);
+    complain_of_change(&mut answer, &state, record);
+    complain_of_change(&mut answer, &labels, block);
     answer
 }
 

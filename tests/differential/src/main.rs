@@ -10,6 +10,7 @@ mod aimed;
 mod answer;
 mod asked;
 mod basics;
+mod block_damage;
 mod borders;
 mod byte_damage;
 mod case;
@@ -49,6 +50,7 @@ mod templates;
 mod text;
 mod unsound;
 mod wanted;
+mod writing;
 
 use difference::{answer_text, content_text};
 use seen::Seen;
@@ -61,7 +63,7 @@ const USUAL_SEED: u64 = 20_260_101;
 
 type Part = fn(&Plan) -> (String, Seen);
 
-const PARTS: [(&str, Part); 10] = [
+const PARTS: [(&str, Part); 11] = [
     ("basics", basics::run),
     ("exhaustive", exhaustive::run),
     ("random", random::run),
@@ -69,6 +71,7 @@ const PARTS: [(&str, Part); 10] = [
     ("old-records", old_records::run),
     ("recipes", recipes::run),
     ("files", files::run),
+    ("writing", writing::run),
     ("program", program::run),
     ("lending", lending::run),
     ("commands", commands::run),

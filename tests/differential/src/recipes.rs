@@ -6,17 +6,15 @@ use crate::courses::Course;
 use crate::instructions::instruction_of_anyone;
 use crate::misformed::{self, Operand, Way, LENGTHS};
 use crate::numbers::{free, members, some, RECIPE_ANSWERS};
-use crate::places::{turn, PLACES};
 use crate::seen::Seen;
 use crate::shards::Plan;
-use crate::site::{Site, OTHER_LENGTHS};
+use crate::site::Site;
 use crate::small_recipes;
 use crate::states::{sound_state, Shape};
 use crate::templates::{self, Recipe, MOST};
-use crate::unsound::turned;
+use crate::unsound::spoilt;
 use crate::wanted::NUMBERS;
 use chance::Chance;
-use reference::State;
 use std::iter::repeat_n;
 use std::ops::RangeInclusive;
 
@@ -224,27 +222,6 @@ fn put_unsound(site: &Site, recipe: &Recipe, is_14: bool, seen: &mut Seen) -> bo
         seen.count(word, is_14.into());
     }
     is_12
-}
-
-/// The state made unsound, or its record made none.
-fn spoilt(state: &State, chance: &mut Chance) -> Site {
-    let mut record = reference::to_record(state);
-    if chance.once_in(3) {
-        let length = chance.pick(&OTHER_LENGTHS[..9]);
-        return Site::of_bytes(record.into_iter().cycle().take(length).collect());
-    }
-    loop {
-        let site = match chance.once_in(4) {
-            true => {
-                turn(&mut record, chance.below(PLACES));
-                Site::of_bytes(record.clone())
-            }
-            false => Site::of_state(&turned(state, chance)),
-        };
-        if site.state.as_ref().is_some_and(|state| !state.is_sound()) {
-            return site;
-        }
-    }
 }
 
 /// So many instructions are accepted, and the last unlists the activator. The next is refused; at times there are more

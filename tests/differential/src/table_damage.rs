@@ -53,7 +53,7 @@ fn any_entry<'a>(draft: &'a mut Draft, chance: &mut Chance) -> Option<(usize, &'
     Some((table, &mut draft.tables[table][place]))
 }
 
-fn any_label<'a>(draft: &'a mut Draft, chance: &mut Chance) -> &'a mut Vec<u8> {
+pub fn any_label<'a>(draft: &'a mut Draft, chance: &mut Chance) -> &'a mut Vec<u8> {
     if draft.tables[LABELS].is_empty() {
         let area = chance.pick(&[draft.areas(), vec![0]].concat());
         draft.insert(LABELS, label_entry(area, &random_text(chance)));
@@ -226,12 +226,12 @@ fn areas_vouch(draft: &mut Draft, chance: &mut Chance) {
     }
 }
 
-fn label_of_an_unlisted_area(draft: &mut Draft, chance: &mut Chance) {
+pub fn label_of_an_unlisted_area(draft: &mut Draft, chance: &mut Chance) {
     let area = unlisted(&draft.areas(), 32, chance);
     draft.insert(LABELS, label_entry(area, &random_text(chance)));
 }
 
-fn label_area(draft: &mut Draft, chance: &mut Chance) {
+pub fn label_area(draft: &mut Draft, chance: &mut Chance) {
     any_label(draft, chance)[0] = beyond(32, chance);
 }
 
@@ -239,7 +239,7 @@ fn label_length(draft: &mut Draft, chance: &mut Chance) {
     any_label(draft, chance)[1] = chance.pick(&[0, 31, 31, 32, 255]);
 }
 
-fn label_text(draft: &mut Draft, chance: &mut Chance) {
+pub fn label_text(draft: &mut Draft, chance: &mut Chance) {
     let label = any_label(draft, chance);
     let length = usize::from(label[1]).clamp(1, 30);
     let any = chance.below(length);
@@ -247,7 +247,7 @@ fn label_text(draft: &mut Draft, chance: &mut Chance) {
     label[2 + place] = chance.pick(&[0, 10, 31, 127, 128, 255]);
 }
 
-fn label_filler(draft: &mut Draft, chance: &mut Chance) {
+pub fn label_filler(draft: &mut Draft, chance: &mut Chance) {
     let label = any_label(draft, chance);
     let length = label[1].min(29);
     label[1] = length.max(1);
@@ -259,13 +259,13 @@ fn label_filler(draft: &mut Draft, chance: &mut Chance) {
 }
 
 /// The text stays, so that it is filler, or zeros are text.
-fn label_shorter_or_longer(draft: &mut Draft, chance: &mut Chance) {
+pub fn label_shorter_or_longer(draft: &mut Draft, chance: &mut Chance) {
     let label = any_label(draft, chance);
     label[1] = chance.pick(&[label[1].saturating_sub(1), label[1].saturating_add(1)]);
 }
 
 /// With another text, so that the entries are not the same.
-fn area_labelled_twice(draft: &mut Draft, chance: &mut Chance) {
+pub fn area_labelled_twice(draft: &mut Draft, chance: &mut Chance) {
     let area = any_label(draft, chance)[0];
     draft.insert(LABELS, label_entry(area, &random_text(chance)));
 }

@@ -41,6 +41,12 @@ impl Display for Case<'_> {
             }
             Case::Read { file, buffer_len } => write!(to, "{buffer_len} {}", bytes_text(file)),
             Case::Label { file, area } => write!(to, "{area} {}", bytes_text(file)),
+            Case::Labels { file } => write!(to, "{}", bytes_text(file)),
+            Case::Write {
+                site,
+                block,
+                buffer_len,
+            } => write!(to, "{buffer_len} {} {}", bytes_text(block), site_text(site)),
             Case::Mark { marks } => write!(to, "{marks}"),
             Case::Program { input } => write!(to, "{}", input_text(input)),
         }
@@ -121,7 +127,7 @@ fn relation_text(pairs: &BTreeSet<(u8, u8)>) -> String {
     or_dash(rows.iter().map(row_text).collect::<Vec<_>>().join(";"))
 }
 
-fn bytes_text(bytes: &[u8]) -> String {
+pub fn bytes_text(bytes: &[u8]) -> String {
     let mut pieces: Vec<String> = vec![String::new()];
     for run in bytes.chunk_by(|one, next| one == next) {
         let hex = format!("{:02x}", run[0]);
@@ -169,6 +175,9 @@ pub fn parse(text: &str) -> Result<Case<'static>, String> {
             file: Cow::Owned(parse_bytes(bytes)?),
             area: number(area)?,
         },
+        ["labels", bytes] => Case::Labels {
+            file: Cow::Owned(parse_bytes(bytes)?),
+        },
         _ => return parse_over_site(&words),
     };
     Ok(case)
@@ -198,6 +207,19 @@ fn parse_over_site(words: &[&str]) -> Result<Case<'static>, String> {
             area: number(area)?,
             object: number(object)?,
         },
+        ["write", len, block, ref site @ ..] => Case::Write {
+            site: Cow::Owned(parse_site(site)?),
+            block: Cow::Owned(parse_bytes(block)?),
+            buffer_len: number(len)?,
+        },
+        _ => return parse_run(words),
+    };
+    Ok(case)
+}
+
+/// A case of many instructions over a site.
+fn parse_run(words: &[&str]) -> Result<Case<'static>, String> {
+    let case = match *words {
         ["list", list, ref site @ ..] => Case::List {
             site: Cow::Owned(parse_site(site)?),
             list: Cow::Owned(items(list, ",").map(parse_four).collect::<Result<_, String>>()?),

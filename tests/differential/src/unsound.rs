@@ -2,6 +2,8 @@
 
 use crate::chains::{entries_at, MOST_STEPS};
 use crate::numbers::{members, pick_or, some, Pairs};
+use crate::places::{self, PLACES};
+use crate::site::{Site, OTHER_LENGTHS};
 use chance::Chance;
 use reference::State;
 use std::collections::BTreeSet;
@@ -28,6 +30,27 @@ pub fn one_step_too_far(state: &State, chance: &mut Chance) -> Option<State> {
         (_, area) => other.exports.insert((object, area)),
     };
     Some(other)
+}
+
+/// The state made unsound, or its record made none.
+pub fn spoilt(state: &State, chance: &mut Chance) -> Site {
+    let mut record = reference::to_record(state);
+    if chance.once_in(3) {
+        let length = chance.pick(&OTHER_LENGTHS[..9]);
+        return Site::of_bytes(record.into_iter().cycle().take(length).collect());
+    }
+    loop {
+        let site = match chance.once_in(4) {
+            true => {
+                places::turn(&mut record, chance.below(PLACES));
+                Site::of_bytes(record.clone())
+            }
+            false => Site::of_state(&turned(state, chance)),
+        };
+        if site.state.as_ref().is_some_and(|state| !state.is_sound()) {
+            return site;
+        }
+    }
 }
 
 /// Puts in an import by the definer of an object, and gives it as (object, area). None if nothing is defined.

@@ -1,7 +1,27 @@
-//! What the tests share that make or change records by hand: the table of `include/panelrights.h`.
+//! What the tests share: states by instructions, a label as long as one can be, and the table of
+//! `include/panelrights.h` for records that are made or changed by hand.
 
 // Each of the tests uses some of it.
 #![allow(dead_code)]
+
+use panelrights::State;
+
+/// 30 characters.
+pub const THIRTY: &str = "Sports hall and changing rooms";
+
+/// Obeys the instructions, all of which must be accepted.
+pub fn obey(state: &mut State, instructions: &[[u8; 4]]) {
+    for &instruction in instructions {
+        assert_eq!(state.step(instruction), Ok(()), "{instruction:?}");
+    }
+}
+
+/// The founding state after the instructions, all of which must be accepted.
+pub fn after(instructions: &[[u8; 4]]) -> State {
+    let mut state = State::founding();
+    obey(&mut state, instructions);
+    state
+}
 
 /// From which byte on the rows of a part stand.
 pub const USER_LIST: usize = 0;

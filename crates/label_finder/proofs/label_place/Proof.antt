@@ -15,7 +15,7 @@ use Rattle.site_file.specs.Reading.{fileRefusal}
 use Rattle.label_finder.specs.Finder.{hasLabel, textAt, textLength, placeOf}
 use Rattle.state.proofs.Bools.{holds, fails}
 use Rattle.label_finder.proofs.Laws.{label-small}
-use Rattle.label_finder.proofs.Texts.{found, front}
+use Rattle.label_finder.proofs.Texts.{found, front, same-place}
 use Rattle.label_finder.proofs.label_place.Statement.{statement}
 use Rattle.label_finder.proofs.label_place.Tie as tie
 
@@ -38,12 +38,8 @@ module _ (file : List ℕ) (a : ℕ) where
   entry-long {table} e t i =
       ap (labelLength table) i ∙ ap (λ (l : List ℕ). labelLength l (labelIndex l a)) t ∙ sym (found file a (holds e) .1)
 
-  -- the two parts of the answer
-  placed : (at len : ℕ) → at ≡ textAt file a → len ≡ textLength file a → record { at = at; length = len } ≡ placeOf file a
-  placed at len e f i = record { at = e i; length = f i }
-
   nowhere : hasLabel file a ≡ false → record { at = 0; length = 0 } ≡ placeOf file a
-  nowhere e = let f = front file a (fails e) in placed 0 0 (sym (f .0)) (sym (f .1))
+  nowhere e = let f = front file a (fails e) in same-place (sym (f .0)) (sym (f .1))
 
 -- the entry was found
 labelled : (c : tie.Else2) → let start = c .before .before .before .before .before .before in hasLabel (now (start .args .file)) (start .args .area) ≡ true
@@ -100,10 +96,13 @@ add-length c = omega arith
 shared-slice-read-length : tie.Need-shared-slice-read-length
 shared-slice-read-length c = omega arith
 
+cast-length : tie.Need-cast-length
+cast-length c = omega (arith, c .shared-slice-known2 .given (c .before .before .before .before .index-of .result * 32 + 1))
+
 returns-3 : tie.Need-returns-3
 returns-3 c =
     let found = c .before .before .before in
-    placed _ _ _ _ (text-at (c .before)) (entry-long _ _ (labelled found) (found .before .before .labels .ensures) (found .before .index-of .ensures))
+    same-place (text-at (c .before)) (entry-long _ _ (labelled found) (found .before .before .labels .ensures) (found .before .index-of .ensures))
 
 pub label-place-spec : {M : Type 1} → statement M
 label-place-spec =
@@ -124,4 +123,5 @@ label-place-spec =
     mul-length
     add-length
     shared-slice-read-length
+    cast-length
     returns-3)
