@@ -7,8 +7,9 @@ ghost use Rattle.marks.specs.Marks.{lowest};
 ghost use Rattle.access.specs.Answer.{answerNumber};
 ghost use Rattle.interface.specs.Interface.{foundingBuffer, stepNumber, stepBuffer, answerOf, accessNumber, fileNumber};
 ghost use Rattle.interface.specs.Interface.{callOf, recipeAnswer, recipeBuffer, fileBuffer, labelNumber, blockNumber};
-ghost use Rattle.interface.specs.Interface.{writeAnswer, writeBuffer};
+ghost use Rattle.interface.specs.Interface.{placeNumber, writeAnswer, writeBuffer};
 use access::Answer;
+use label_finder::Place;
 use machine::Reply;
 use recipes::Call;
 use state::State;
@@ -120,13 +121,19 @@ pub extern "C" fn panelrights_read_file<'a>(file: &'a [u8], state: &'a mut [u8])
     reading.refusal
 }
 
+// The number that stands for a place in a file: offset * 65536 + length.
+fn place_number(place: Place) -> u32
+    ensures { λ r. ⌜ r ≡ placeNumber place ⌝ }
+{
+    place.at as u32 * 65536 + place.length as u32
+}
+
 // Where the text of the area's label stands in the file: offset * 65536 + length, 0 if there is none.
 #[no_mangle]
 pub extern "C" fn panelrights_label(file: &[u8], area: u32) -> u32
     ensures { λ r. ⌜ r ≡ labelNumber (now (file .entry)) area ⌝ }
 {
-    let place = label_finder::label_place(file, area);
-    place.at as u32 * 65536 + place.length as u32
+    place_number(label_finder::label_place(file, area))
 }
 
 // Where the label block of the file stands: offset * 65536 + length, 0 if the file is refused.
@@ -134,8 +141,7 @@ pub extern "C" fn panelrights_label(file: &[u8], area: u32) -> u32
 pub extern "C" fn panelrights_labels(file: &[u8]) -> u32
     ensures { λ r. ⌜ r ≡ blockNumber (now (file .entry)) ⌝ }
 {
-    let block = label_finder::block_place(file);
-    block.at as u32 * 65536 + block.length as u32
+    place_number(label_finder::block_place(file))
 }
 
 // Writes the site file of the state and its labels into the buffer: the length; or 65536 + n for refusal n, and no byte

@@ -8,6 +8,7 @@
 --     recipeAnswer, recipeBuffer     panelrights_recipe
 --     accessNumber                   panelrights_access
 --     fileNumber, fileBuffer         panelrights_read_file
+--     placeNumber                    what panelrights_label and panelrights_labels have in common
 --     labelNumber                    panelrights_label
 --     blockNumber                    panelrights_labels
 --     writeAnswer, writeBuffer       panelrights_write_file
@@ -29,7 +30,8 @@ use Rattle.recipes.specs.Run.{RecipeVerdict, recipeOf}
 use Rattle.recipes.specs.declared.Call.{Call}
 use Rattle.recipe_guarantees.specs.Commands.{Command, single, recipe}
 use Rattle.site_file.specs.Reading.{readOf}
-use Rattle.label_finder.specs.Finder.{textAt, textLength, blockAt, blockLength}
+use Rattle.label_finder.specs.Finder.{placeOf, blockPlace}
+use Rattle.label_finder.specs.declared.Place.{Place}
 use Rattle.output.specs.declared.Written.{Written}
 use Rattle.site_encoding.specs.Writer.{writeOf, bufferAfter}
 
@@ -92,15 +94,20 @@ fileNumber file buffer = cond (isSized buffer) (readOf file .refusal) 31
 abbrev pub fileBuffer : (file buffer : List ℕ) → List ℕ
 fileBuffer file buffer = stored buffer (readOf file .state)
 
+-- ---- a place in a file, as panelrights_label and panelrights_labels answer it
+-- "offset * 65536 + length"
+abbrev pub placeNumber : Place → ℕ
+placeNumber p = p .at * 65536 + p .length
+
 -- ---- panelrights_label
 -- "Where the text of the area's label stands in the file: offset * 65536 + length. 0 if there is none"
 abbrev pub labelNumber : (file : List ℕ) (a : ℕ) → ℕ
-labelNumber file a = textAt file a * 65536 + textLength file a
+labelNumber file a = placeNumber (placeOf file a)
 
 -- ---- panelrights_labels
 -- "Where the label block of the file stands: offset * 65536 + length. 0 if the file is refused"
 abbrev pub blockNumber : (file : List ℕ) → ℕ
-blockNumber file = blockAt file * 65536 + blockLength file
+blockNumber file = placeNumber (blockPlace file)
 
 -- ---- panelrights_write_file
 -- "The length of the file" .. "or 65536 + n for refusal n"

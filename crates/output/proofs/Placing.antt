@@ -3,12 +3,12 @@
 --     laid-length, laid-past                      the buffer stays as long; past its end nothing changes
 --     Placed                                      what a function that lays a text promises of its answer and its buffer
 --     placed-none, placed-then, placed-3          nothing, one text behind another, and three
---     placed-length                               the buffer stays as long
+--     placed-length, placed-known                 the buffer stays as long
 --     Turns, LaidTo                               a loop that lays a text in turns, and what it has laid
 --     turns-none, turns-more, turns-all           before the first turn, one turn more, after the last
 -- Assumes nothing.
 use Prim.Native.Nat.{ℕ, suc, _+_, _^_, _≤_, _<_}
-use mathlib.Core.Path.{_≡_, refl, sym, ap, _∙_}
+use mathlib.Core.Path.{_≡_, refl, sym, ap, subst, _∙_}
 use mathlib.Core.List.{List, [], _∷_, _++_, append-assoc, append-nil}
 use native.Mathlib.Nat.{add-zero}
 use native.Mathlib.Omega.{arith}
@@ -71,6 +71,10 @@ Placed text at before end after = (end ≡ placeBehind at text) × (after ≡ la
 
 pub placed-length : (t : List ℕ) (at : ℕ) (b : List ℕ) (end : ℕ) (c : List ℕ) → Placed t at b end c → length c ≡ length b
 placed-length t at b end c p = ap length (p .1) ∙ laid-length t at b
+
+-- so a length is known of it too
+pub placed-known : (t : List ℕ) (at : ℕ) (b : List ℕ) (end : ℕ) (c : List ℕ) → Placed t at b end c → length b < 2 ^ 64 → length c < 2 ^ 64
+placed-known t at b end c p h = subst (λ (n : ℕ). n < 2 ^ 64) (sym (placed-length t at b end c p)) h
 
 place-then : (t u : List ℕ) (at : ℕ) → placeBehind (placeBehind at t) u ≡ placeBehind at (t ++ u)
 unfolding placeBehind

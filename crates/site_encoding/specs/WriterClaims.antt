@@ -1,5 +1,5 @@
--- What is claimed of the writer. Each claim is a type, which proofs/WriterLaws.antt inhabits under the claim's name. That
--- a file never has more than 13,340 bytes is claimed too (Claims, EncodeMost and AcceptedMost).
+-- What is claimed of the writer. Each claim is a type, which proofs/WriterLaws.antt inhabits under the claim's name.
+-- That a file never has more than 13,340 bytes is claimed too (Claims, EncodeMost and AcceptedMost).
 use Prim.Native.Nat.{ℕ, _≤_, _<_}
 use mathlib.Core.Path.{_≡_}
 use mathlib.Core.Logic.{_↔_}
