@@ -39,12 +39,12 @@ use Rattle.recipe_guarantees.proofs.Laws.{recipe-numbers, recipe-two-digits, pl
 use Rattle.recipe_guarantees.proofs.Commands.{commands-upheld}
 use Rattle.site_file.specs.Reading.{fileRefusal, readOf, readNumbers}
 use Rattle.label_finder.specs.Finder.{hasLabel, textAt, textLength, blockAt, blockLength}
-use Rattle.site_file.proofs.Laws.{read-sound, read-numbers, read-number, accepted-header}
+use Rattle.site_file.proofs.Laws.{read-sound, read-numbers, read-number}
 use Rattle.site_format.specs.Format.{labels, part}
 use Rattle.label_finder.proofs.Laws.{label-small, label-behind-front, no-label-at-front, block-small, block-is-labels, no-block-refused}
 use Rattle.site_encoding.specs.Encode.{encode}
 use Rattle.site_encoding.specs.Claims.{mostBytes}
-use Rattle.site_encoding.proofs.Laws.{encode-accepted, encode-most}
+use Rattle.site_encoding.proofs.Laws.{encode-accepted, encode-most, encode-least}
 use Rattle.site_encoding.specs.Writer.{writeNumbers, writeRefusal, writeOf, bufferAfter}
 use Rattle.site_encoding.proofs.WriterLaws.{refused-exactly, write-numbers, buffer-length, writing-again}
 use Rattle.interface.specs.Interface.{changedBy, stepBuffer, answerOf, accessNumber, fileNumber, fileBuffer, runBuffer}
@@ -324,9 +324,8 @@ write-answers buffer block file = go (Writes.outcome buffer block file)
     go (inl w) =
         let n = writeAnswer buffer block file in
         let small : n ≤ mostBytes = Writes.wrote-small buffer block file w in
-        let header = accepted-header (encode s block) (encode-accepted s block (w .writable .sound) (w .writable .lawful) .no-refusal) .long in
-        let long : 28 ≤ n = rw (w .answer) header in
-        or-right (among n (map (λ k. 65536 + k) writeNumbers)) (not (ltb n 28) && not (ltb mostBytes n)) (rw (le-ltb n 28 long, le-ltb mostBytes n small) tt)
+        let long : 30 ≤ n = rw (w .answer) (encode-least s block (w .writable .sound)) in
+        or-right (among n (map (λ k. 65536 + k) writeNumbers)) (not (ltb n 30) && not (ltb mostBytes n)) (rw (le-ltb n 30 long, le-ltb mostBytes n small) tt)
     go (inr r) =
         rw (r .answer)
         (⊎-elim (λ z. absurd (r .some (eqb→eq (writeRefusal s block file) 0 z))) (λ t. t)

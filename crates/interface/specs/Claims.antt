@@ -227,9 +227,9 @@ abbrev pub MostAlwaysDoes : Type 0
 MostAlwaysDoes =
     (buffer block file : List ℕ) → mostBytes ≤ length file → writeAnswer buffer block file ≡ 65536 + 31 → ⊥
 
--- 65536 + n where n is 12, 30 or 31; or a length, from the header's 28 bytes to PANELRIGHTS_FILE_MOST
+-- 65536 + n where n is 12, 30 or 31; or a length, from 30 to PANELRIGHTS_FILE_MOST
 abbrev pub isWriteAnswer : ℕ → Bool
-isWriteAnswer n = among n (map (λ k. 65536 + k) writeNumbers) || not (ltb n 28) && not (ltb mostBytes n)
+isWriteAnswer n = among n (map (λ k. 65536 + k) writeNumbers) || not (ltb n 30) && not (ltb mostBytes n)
 
 abbrev pub WriteAnswers : Type 0
 WriteAnswers = (buffer block file : List ℕ) → T (isWriteAnswer (writeAnswer buffer block file))

@@ -1,17 +1,23 @@
 -- The claims of specs/Claims.antt, each proved under its name.
 -- Assumes nothing.
-use Prim.Native.Nat.{ℕ, _≤_}
+use Prim.Native.Nat.{ℕ, zero, suc, _≤_}
 use mathlib.Core.Path.{_≡_, sym, subst, _∙_, refl}
 use mathlib.Core.List.{List}
-use lib.ListN.{length}
-use Rattle.state.specs.Site.{Site}
+use native.Mathlib.Omega.{arith}
+use lib.Dec.{T}
+use lib.ListN.{length, drop, length-append}
+use Rattle.state.specs.Below.{someBelow}
+use Rattle.state.specs.Site.{Site, owner, related}
+use Rattle.state.proofs.Laws.{related-inside}
+use Rattle.pair_tables.specs.Pairs.{pairCount, isPairOf, hasPair, tableOf}
+use Rattle.pair_tables.proofs.Laws.{table-holds}
 use Rattle.label_tables.specs.Labels.{LawfulBlock}
 use Rattle.label_tables.proofs.Laws.{one-block}
-use Rattle.site_format.specs.Format.{AreBytes, labels, part}
+use Rattle.site_format.specs.Format.{AreBytes, labels, tables, part}
 use Rattle.site_file.specs.Reading.{fileRefusal, readOf, stateIn}
 use Rattle.site_file.proofs.Checked.{Checked, checked, accepted, state-sound, state-read}
 use Rattle.label_finder.proofs.Laws.{label-is-text}
-use Rattle.site_encoding.specs.Encode.{encode}
+use Rattle.site_encoding.specs.Encode.{bodyOf, fieldBytes, fieldsOf, encode}
 use Rattle.site_encoding.specs.Claims
 use Rattle.site_encoding.specs.Claims.{Accepted, Encoding}
 use Rattle.site_encoding.proofs.Accept
@@ -71,6 +77,25 @@ encode-accepted s l h law = acceptance (encode s l) s l (record { sound = h; law
 pub encode-most : Claims.EncodeMost
 unfolding encode
 encode-most s l h law = Encoded.at-most s l h law (encode s l) refl
+
+-- a sound state has an owner pair, so its table of owners has one
+some-pair : (t : List ℕ) (u a : ℕ) → T (hasPair t u a) → 1 ≤ pairCount t
+unfolding hasPair someBelow
+some-pair t u a h = go (pairCount t) h
+  where
+    go : (n : ℕ) → T (someBelow n (isPairOf t u a)) → 1 ≤ n
+    go zero none = absurd none
+    go (suc n) some = omega arith
+
+pub encode-least : Claims.EncodeLeast
+unfolding encode
+encode-least s l h =
+    let a = h .some-area in
+    let u = h .acceptable .areas (a .0) (a .1) in
+    let inside = related-inside s owner (u .0) (a .0) (h .shaped) (u .1) in
+    let there : T (hasPair (tableOf 32 (related s owner)) (u .0) (a .0)) = rw (table-holds 32 (related s owner) (u .0) (a .0) (inside .0) (inside .1)) (u .1) in
+    let one = some-pair (tableOf 32 (related s owner)) (u .0) (a .0) there in
+    omega (arith, one, length-append (fieldBytes (fieldsOf s l)) (bodyOf s l tables), length-append (tableOf 32 (related s owner)) (bodyOf s l (drop 1 tables)))
 
 pub accepted-most : Claims.AcceptedMost
 accepted-most file bytes ok =

@@ -60,3 +60,7 @@ EncodeMost = (s : Site) (l : List ℕ) → Sound s → Lawful s l → length (en
 
 abbrev pub AcceptedMost : Type 0
 AcceptedMost = (file : List ℕ) → AreBytes file → fileRefusal file ≡ 0 → length file ≤ mostBytes
+
+-- and none has fewer than 30: the header's 28, and an owner pair
+abbrev pub EncodeLeast : Type 0
+EncodeLeast = (s : Site) (l : List ℕ) → Sound s → 30 ≤ length (encode s l)
