@@ -32,12 +32,15 @@ examples: lib
 		cp target/cargo/release/$$name target/examples/$$name-rust || exit 1; \
 	done
 	@target/examples/handover-c examples/school.site
+	@printf '\nWhy does panel 2 see table 9? handover-c --why 5 9 examples/school.site\n\n'
+	@target/examples/handover-c --why 5 9 examples/school.site
 	@printf '\nA school is opened there: opening-c examples/school.site 0 9 10 14 30\n\n'
 	@target/examples/opening-c examples/school.site 0 9 10 14 30
 	@echo
 	@echo 'On a site file of your own: target/examples/handover-c FILE, or handover-rust;'
 	@echo 'target/examples/opening-c FILE ACTIVATOR SCHOOL HALL KEYHOLDER TABLE, or opening-rust'
 	@echo 'To change the file by instructions, a line each: target/examples/handover-c --change FILE <INSTRUCTIONS'
+	@echo 'Why an area sees a table, or why not: target/examples/handover-c --why AREA TABLE FILE'
 
 test:
 	@tests/gate.sh

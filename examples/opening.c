@@ -86,24 +86,6 @@ static int open_school(struct site *site, const struct call *call)
     return ACCEPTED;
 }
 
-/* Reads a decimal number from 0 to 255; 0 if the text is none. A wider one must not become a byte unseen. */
-static int read_argument(const char *text, uint8_t *number)
-{
-    unsigned value = 0;
-
-    if (*text == '\0')
-        return 0;
-    for (; *text != '\0'; text++) {
-        if (*text < '0' || *text > '9')
-            return 0;
-        value = value * 10 + (unsigned)(*text - '0');
-        if (value > 255)
-            return 0;
-    }
-    *number = (uint8_t)value;
-    return 1;
-}
-
 int main(int argc, char **argv)
 {
     static struct site site;

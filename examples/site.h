@@ -1,6 +1,6 @@
 /*
  * What the examples in C share: a site file with its state, how its areas and tables are printed, the words
- * for refusals, and the exit statuses.
+ * for refusals, numbers as arguments, and the exit statuses.
  */
 #ifndef SITE_H
 #define SITE_H
@@ -102,15 +102,35 @@ static void print_words(uint8_t refusal)
                refusal);
 }
 
-/* The area with its label, if it has one. */
-static void print_area(const struct site *site, uint8_t area)
+/* The status of a refusal, which is printed. */
+static int refuse(uint8_t refusal)
+{
+    printf("Refused as %d. ", refusal);
+    print_words(refusal);
+    printf("\n");
+    return REFUSED;
+}
+
+/* The area's number with its label, if it has one. */
+static void print_name(const struct site *site, uint8_t area)
 {
     uint32_t label = panelrights_label(site->file, site->file_len, area);
     const char *text = (const char *)site->file + PANELRIGHTS_LABEL_OFFSET(label);
 
-    printf("area %d", area);
+    printf("%d", area);
     if (label != 0)
         printf(" '%.*s'", (int)PANELRIGHTS_LABEL_LENGTH(label), text);
+}
+
+static void print_area(const struct site *site, uint8_t area)
+{
+    printf("area ");
+    print_name(site, area);
+}
+
+static void print_steps(uint16_t steps)
+{
+    printf("%d step%s", steps, steps == 1 ? "" : "s");
 }
 
 /* The area with the areas that it lies in, as a line. */
@@ -149,8 +169,9 @@ static void print_table(const struct site *site, uint8_t object)
             continue;
         printf("    ");
         print_area(site, area);
-        printf(" sees it over %d step%s%s%s\n", steps, steps == 1 ? "" : "s",
-               PANELRIGHTS_IMPORTED_BY(site->state, object, area) ? ", imports it" : "",
+        printf(" sees it over ");
+        print_steps(steps);
+        printf("%s%s\n", PANELRIGHTS_IMPORTED_BY(site->state, object, area) ? ", imports it" : "",
                PANELRIGHTS_EXPORTED_BY(site->state, object, area) ? ", exports it" : "");
     }
 }
@@ -179,12 +200,25 @@ static int read_site(struct site *site, const char *name, const char *program)
         return FAILED;
     }
     refusal = panelrights_read_file(site->file, site->file_len, site->state, sizeof site->state);
-    if (refusal == PANELRIGHTS_OK)
-        return ACCEPTED;
-    printf("Refused as %d. ", refusal);
-    print_words(refusal);
-    printf("\n");
-    return REFUSED;
+    return refusal == PANELRIGHTS_OK ? ACCEPTED : refuse(refusal);
+}
+
+/* Reads a decimal number from 0 to 255; 0 if the text is none. A wider one must not become a byte unseen. */
+static int read_argument(const char *text, uint8_t *number)
+{
+    unsigned value = 0;
+
+    if (*text == '\0')
+        return 0;
+    for (; *text != '\0'; text++) {
+        if (*text < '0' || *text > '9')
+            return 0;
+        value = value * 10 + (unsigned)(*text - '0');
+        if (value > 255)
+            return 0;
+    }
+    *number = (uint8_t)value;
+    return 1;
 }
 
 /* The status, once all is written. */

@@ -1,5 +1,5 @@
-//! What the examples in Rust share: the state and the labels of a site file, how areas and tables are printed, and the
-//! exit statuses.
+//! What the examples in Rust share: the state and the labels of a site file, how areas and tables are printed, numbers
+//! as arguments, and the exit statuses.
 
 use panelrights::{labels, read_file, Labels, Refusal, State};
 use std::ffi::OsStr;
@@ -24,10 +24,7 @@ impl Site {
 
     /// The area with its label, if it has one.
     pub fn area(&self, area: u8) -> String {
-        match self.labels.get(area) {
-            Some(text) => format!("area {area} '{text}'"),
-            None => format!("area {area}"),
-        }
+        format!("area {}", self.labels.name(area))
     }
 
     /// The area with the areas that it lies in, as a line.
@@ -65,6 +62,12 @@ pub fn load(name: &OsStr) -> io::Result<Vec<u8>> {
     let mut file = Vec::new();
     File::open(name)?.take(FILE_BYTES).read_to_end(&mut file)?;
     Ok(file)
+}
+
+/// A decimal number from 0 to 255.
+pub fn number(text: &OsStr) -> Option<u8> {
+    let text = text.to_str()?;
+    text.bytes().all(|byte| byte.is_ascii_digit()).then(|| text.parse().ok())?
 }
 
 /// What is printed of a refusal: its number, and what is wrong and would help.

@@ -51,7 +51,8 @@ enum {
     PANELRIGHTS_RECIPE_MOST = 16,       /* how many instructions a recipe may have */
     PANELRIGHTS_FILE_MOST = 13340,      /* how many bytes a site file has at most, in this version */
     PANELRIGHTS_LABEL_ENTRY_BYTES = 32, /* how many bytes each entry of a label block has */
-    PANELRIGHTS_LABEL_TEXT_MOST = 30    /* how many bytes the text of a label has at most */
+    PANELRIGHTS_LABEL_TEXT_MOST = 30,   /* how many bytes the text of a label has at most */
+    PANELRIGHTS_EXPLAIN_BYTES = 32      /* how many bytes the buffer of panelrights_explain must have at least */
 };
 
 /*
@@ -130,8 +131,8 @@ enum panelrights_code {
 /*
  * The refusals. Where more than one applies you get the first in the order of the checks: for an
  * instruction 12, 1 to 7 upwards, 15, 8 to 11 upwards; for a recipe 12, 14, then those of its first
- * instruction that is refused; for the access question 12, 2, 4; for a site file that is read 31, then the
- * lowest number; for one that is written 12, 30, 31.
+ * instruction that is refused; for the access question 12, 2, 4; for why it is answered so 31, 12, 2, 4; for a
+ * site file that is read 31, then the lowest number; for one that is written 12, 30, 31.
  * A later version may have more numbers: keep a default case.
  *
  * An instruction can be refused as 12, 1, 2 or 3, and besides by its code as
@@ -177,8 +178,9 @@ enum panelrights_refusal {
 
     /* panelrights_founding, panelrights_read_file: the state buffer has another length than a record. (A
        record of another length is 12 where one is read: panelrights_step, panelrights_recipe,
-       panelrights_access, panelrights_write_file.) panelrights_write_file: the buffer is shorter than the
-       file. */
+       panelrights_access, panelrights_explain, panelrights_explain_step, panelrights_write_file.)
+       panelrights_write_file: the buffer is shorter than the file. panelrights_explain: the buffer has fewer
+       than 32 bytes. */
     PANELRIGHTS_BUFFER_LENGTH = 31
 };
 
@@ -241,6 +243,48 @@ enum { PANELRIGHTS_NO_ACCESS = 255, PANELRIGHTS_ACCESS_REFUSED = 256 };
  * 16 bits: in 8, refusal 4 would read as 4 steps.
  */
 uint16_t panelrights_access(const uint8_t *state, size_t state_len, uint32_t area, uint32_t object);
+
+/* What panelrights_explain adds to a refusal, and to the number of bytes where it writes counts. */
+enum { PANELRIGHTS_EXPLAIN_REFUSED = 256, PANELRIGHTS_EXPLAIN_COUNTS = 512 };
+
+/*
+ * Why does the object reach the area, or why not? Writes into the buffer, from its front on:
+ *   - With access, the chain: the numbers of its areas, one a byte. The first is the area that defines the
+ *     object, the last is the area asked about, and the object moves one step from each to the next. It is a
+ *     shortest chain, and among those the one with the lowest numbers compared from the front. The answer is how
+ *     many areas it has, one more than it has steps.
+ *   - Without access, the counts: 32 bytes. Byte k is the least number of steps to area k, or 255 if that area
+ *     lacks access: so they show how far the object comes. The answer is 512 + 32.
+ * Bytes not written keep their content. For refusal r the answer is 256 + r: 31, 12, 2 or 4, in that order, and no
+ * byte is written. 31 is for a buffer of fewer than 32 bytes, also where a chain would have fewer; the others are
+ * those of panelrights_access. A record of another length is 12. So 1 to 9 is a chain, 256 to 511 a refusal and
+ * 512 to 767 are counts: a test for 256 or more alone would take counts for a refusal. Keep the answer in 16 bits.
+ * A later version may give answers from 768 on.
+ */
+uint16_t panelrights_explain(const uint8_t *state, size_t state_len, uint32_t area, uint32_t object, uint8_t *buffer,
+                             size_t buffer_len);
+
+/* Which pair panelrights_explain_step names. */
+enum panelrights_lost { PANELRIGHTS_LOST_NONE = 0, PANELRIGHTS_LOST_IMPORT = 1, PANELRIGHTS_LOST_EXPORT = 2 };
+
+/*
+ * Why is the instruction refused? The number that panelrights_step would give, 0 for one that it would accept;
+ * and for 11 the first pair, in the state that the removal would give, whose area would lack access: imports
+ * before exports, then by object, then by area. No byte is changed.
+ *
+ * number + 256 * lost + 65536 * object + 16777216 * area. What is lost is 1 for an import pair and 2 for an export
+ * pair, which come with 11; with any other number lost, object and area are 0. (A pair may be of object 0 and area 0:
+ * ask what is lost.) Keep the answer in 32 bits, and compare refusals with PANELRIGHTS_REASON_NUMBER(answer): answer
+ * == PANELRIGHTS_WOULD_LOSE_ACCESS is never true. A record of another length is 12.
+ */
+uint32_t panelrights_explain_step(const uint8_t *state, size_t state_len, uint8_t code, uint8_t activator, uint8_t a,
+                                  uint8_t b);
+
+/* The four parts of its answer. */
+#define PANELRIGHTS_REASON_NUMBER(answer) ((uint8_t)((answer)&0xff))
+#define PANELRIGHTS_REASON_LOST(answer) ((uint8_t)((answer) >> 8 & 0xff))
+#define PANELRIGHTS_REASON_OBJECT(answer) ((uint8_t)((answer) >> 16 & 0xff))
+#define PANELRIGHTS_REASON_AREA(answer) ((uint8_t)((answer) >> 24))
 
 /*
  * Reads a site file. 0, and the record is that of the file's state; or the refusal, 21 to 29, and the

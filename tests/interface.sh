@@ -25,7 +25,8 @@ compile_c() {
     quietly gcc -std=c99 -O2 -Wall -Wextra -Werror -pedantic "$@"
 }
 
-checks=(tests/interface/{main,names,machine,recipes,forms,agreement,records,reading,files,writing,blocks,edges,check}.c)
+checks=(tests/interface/{main,names,machine,recipes,forms,agreement,lending,explaining,reasons,records,reading}.c
+    tests/interface/{files,writing,blocks,edges,check}.c)
 
 # The C checks, built with the flags given to the compiler; prints how many there were.
 run_checks() {
@@ -62,6 +63,9 @@ expect() {
     [ "$(cat "$work/complaint")" = "$complaint" ] || fail "$*: it complained: $(cat "$work/complaint")"
 }
 
+# What is no argument for a number from 0 to 255.
+wrong_numbers=(256 1000000000000000000000 -1 +1 '' ' 1' 1/ 1: 0x1)
+
 # The bytes that a text has in hexadecimal, with remarks behind '#'.
 bytes_of() {
     printf '%b' "$(sed 's/#.*//; s/[0-9a-f][0-9a-f]/\\x&/g' "$1" | tr -d ' \n')"
@@ -75,15 +79,22 @@ change_school() {
     printf '%b' "$(printf '\\x%s' "$@")" | dd of="$work/changed.site" bs=1 seek="$place" conv=notrunc status=none
 }
 
-# The programs of this name, in C and in Rust, refuse in the same words, one line of which is as the pattern says.
-expect_refusal() {
-    local pattern=$1 program=target/examples/$2 ended=0
+# The programs of this name, in C and in Rust, end with the status and print the same, which is then $work/expected.
+expect_same() {
+    local status=$1 program=target/examples/$2 ended=0
     shift 2
     runs=$((runs + 1))
     "$program-rust" "$@" >"$work/expected" || ended=$?
-    [ "$ended" = 1 ] || fail "$program-rust $*: it ended with $ended and not with 1"
-    grep -qx "$pattern" "$work/expected" || fail "$program-rust $*: it printed $(cat "$work/expected")"
-    expect 1 "$work/expected" '' "$program-c" "$@"
+    [ "$ended" = "$status" ] || fail "$program-rust $*: it ended with $ended and not with $status"
+    expect "$status" "$work/expected" '' "$program-c" "$@"
+}
+
+# The programs of this name, in C and in Rust, refuse in the same words, one line of which is as the pattern says.
+expect_refusal() {
+    local pattern=$1
+    shift
+    expect_same 1 "$@"
+    grep -qx "$pattern" "$work/expected" || fail "$*: it printed $(cat "$work/expected")"
 }
 
 # The handover program with --change and an input, on a copy of the school's site file: status, output and complaint as
@@ -134,18 +145,21 @@ numbered=$(grep -oE 'PANELRIGHTS_[A-Z_]+ = ' include/panelrights.h | sed 's/ = /
 compared=$(sed -nE 's/^ *CHECK_NUMBER\((PANELRIGHTS_[A-Z_]+), [0-9]+\);$/\1/p' tests/interface/names.c | sort)
 [ "$numbered" = "$compared" ] || fail 'tests/interface/names.c has other names than the header gives a number'
 
-# The refusals of the header and of the Rust package are the numbers that the claims allow: those of a step, of a recipe
-# and of a file that is read or written, and 31. The first two lists have most numbers in common.
+# The refusals of the header and of the Rust package are the numbers that the claims allow: those of a step, which its
+# explanation has too, of a recipe, of an access question and its explanation, and of a file that is read or written;
+# and 31 of a state's buffer. The lists have numbers in common.
 refusals=$(sed -n '/^enum panelrights_refusal {/,/^};/s/.* = \([0-9]*\).*/\1/p' include/panelrights.h | sort -n)
 allowed=$({
     printf '0\n31\n'
     numbers_of furtherNumbers crates/refusals/specs/Refusals.antt
     numbers_of stepNumbers crates/refusals/specs/Refusals.antt
     numbers_of recipeNumbers crates/recipe_guarantees/specs/Claims.antt
+    numbers_of questionNumbers crates/machine/specs/Step.antt
+    numbers_of explainNumbers crates/reasons/specs/Explanation.antt
     numbers_of readNumbers crates/site_file/specs/Reading.antt
     numbers_of writeNumbers crates/site_encoding/specs/Writer.antt
 } | sort -un)
-lists='stepNumbers, recipeNumbers, readNumbers and writeNumbers'
+lists='stepNumbers, recipeNumbers, questionNumbers, explainNumbers, readNumbers and writeNumbers'
 [ "$refusals" = "$allowed" ] || fail "the header has other refusals than $lists"
 packaged=$({ echo 0; sed -nE 's/^    [A-Za-z]+ = ([0-9]+): ".*/\1/p' bindings/rust/src/refusal.rs; } | sort -n)
 [ "$packaged" = "$allowed" ] || fail "the Rust package has other refusals than $lists"
@@ -166,10 +180,18 @@ grep -qE "^ *PANELRIGHTS_FILE_MOST = $most," include/panelrights.h ||
 packaged=$(sed -n 's/^pub const FILE_MOST: usize = \([0-9_]*\);$/\1/p' bindings/rust/src/sys.rs | tr -d _)
 [ "$packaged" = "$most" ] || fail "the Rust package's longest file is not of $most bytes"
 
+# And the length of a buffer for an explanation.
+least=$(sed -n 's/^explainRefusals .*ltb (length buffer) \([0-9]*\)).*/\1/p' crates/reasons/specs/Explanation.antt)
+[ -n "$least" ] || fail 'crates/reasons/specs/Explanation.antt does not say how long a buffer must be'
+grep -qE "^ *PANELRIGHTS_EXPLAIN_BYTES = $least\b" include/panelrights.h ||
+    fail "the header's buffer for an explanation is not of $least bytes"
+grep -qxF "pub const EXPLAIN_BYTES: usize = $least;" bindings/rust/src/sys.rs ||
+    fail "the Rust package's buffer for an explanation is not of $least bytes"
+
 printed=$(run_checks -Iinclude "$library")
 quietly g++ -std=c++11 -Wall -Wextra -Werror -pedantic -Iinclude tests/interface/header.cc "$library" -o "$work/header"
 quietly "$work/header"
-compile_c -pthread -Iinclude tests/interface/{stack,files,check}.c "$library" -o "$work/stack"
+compile_c -pthread -Iinclude tests/interface/{stack,files,lending,check}.c "$library" -o "$work/stack"
 stack=$("$work/stack") || fail "the stack of a call: $stack"
 echo "interface: $printed in C; the header in C++; $stack"
 
@@ -220,6 +242,22 @@ printf '%s\n' '#include <panelrights.h>' '#include <stdio.h>' '#include <string.
     'return save() != PANELRIGHTS_WRITE_REFUSED + PANELRIGHTS_LABEL_BLOCK; }' >"$work/saving.c"
 compile_c "$work/saving.c" "${flags[@]}" -o "$work/saving"
 "$work/saving" <examples/school.site || fail "README.md's saving in C does not write what it says"
+# Its question is answered by the chain for panel 2 of the school, and by the counts for loop 2; the hall is in the way.
+take_readme c "$work/why.h" "$work/behind" Why
+printf '%s\n' '#include <panelrights.h>' '#include <stdio.h>' \
+    'static uint8_t site[PANELRIGHTS_STATE_BYTES], file[65536];' 'static void why(uint8_t area) {' \
+    '#include "why.h"' '}' 'int main(void) {' \
+    'panelrights_read_file(file, fread(file, 1, sizeof file, stdin), site, sizeof site);' \
+    'why(5); why(3); return 0; }' >"$work/why.c"
+compile_c "$work/why.c" "${flags[@]}" -o "$work/why"
+{
+    printf 'area %d\n' 2 1 0 4 5
+    echo 'area 4 imports table 9'
+    printf 'area %d: %d\n' 0 2 1 1 2 0 3 255 4 3 5 4 6 255 7 2 8 4
+    for ((area = 9; area < 32; area++)); do echo "area $area: 255"; done
+    echo 'area 4 imports table 9'
+} >"$work/why.out"
+"$work/why" <examples/school.site | cmp - "$work/why.out" || fail "README.md's why in C prints something else"
 take_readme rust "$work/lend.rs" "$work/behind"
 mkdir -p "$work/readme/src/bin"
 printf '%s\n' '#![deny(warnings)]' "$(cat "$work/lend.rs")" \
@@ -239,8 +277,23 @@ printf '%s\n' '#![deny(warnings)]' "$(cat "$work/saving.rs")" 'fn main() {' \
     'assert_eq!(file, Ok(saved)); }' >"$work/readme/src/bin/saving.rs"
 quietly cargo run --quiet --offline --manifest-path "$work/readme/Cargo.toml" --bin saving \
     examples/school.site examples/change.in "$work/saved.site"
+# Its words in Rust are those of the examples; for what is accepted there are none.
+take_readme rust "$work/why.rs" "$work/behind" Why
+printf '%s\n' '#![deny(warnings)]' "$(cat "$work/why.rs")" 'fn main() {' \
+    'let [school, chain, far, cut] = [1, 2, 3, 4].map(|n| std::fs::read(std::env::args().nth(n).unwrap()).unwrap());' \
+    'let (site, labels) = (panelrights::read_file(&school).unwrap(), panelrights::labels(&school).unwrap());' \
+    'let line = |words: String| (words + "\n").into_bytes();' \
+    'assert_eq!(why(&site, &labels, 5, 9).map(line), Ok(chain));' \
+    'assert_eq!(why(&site, &labels, 3, 9).map(line), Ok(far));' \
+    'assert_eq!(why(&site, &labels, 9, 9), Err(Refusal::NotListed));' \
+    'let last = |words: String| line(words.rsplit(". ").next().unwrap().into());' \
+    'let named = cut.split_inclusive(|&byte| byte == 10).last().unwrap();' \
+    'assert_eq!(why_refused(&site, &labels, [12, 0, 1, 9].into()).map(last).as_deref(), Some(named));' \
+    'assert_eq!(why_refused(&site, &labels, [1, 0, 9, 0].into()), None); }' >"$work/readme/src/bin/why.rs"
+quietly cargo run --quiet --offline --manifest-path "$work/readme/Cargo.toml" --bin why \
+    examples/{school.site,why-chain.out,why-no-access.out,change-refused.out}
 echo "interface: README.md's program in C prints '$said', and its recipe is obeyed; its function in Rust is called;" \
-    'its saving writes the school again in C, and the changed school in Rust'
+    'its saving writes the school again in C, and the changed school in Rust; its why explains the school in both'
 
 mkdir "$work/shared"
 quietly gcc -shared -Wl,-z,defs -Wl,--whole-archive "$library" -Wl,--no-whole-archive \
@@ -261,7 +314,7 @@ bytes_of examples/school.txt | cmp - examples/school.site || fail "examples/scho
 change_school 63 03
 cmp "$work/changed.site" examples/damaged.site || fail "examples/damaged.site is not what README.md there says"
 quietly make -o lib examples CFLAGS='-std=c99 -O2 -Wall -Wextra -Werror -pedantic'
-usage='usage: handover [--change] FILE'
+usage='usage: handover [--change | --why AREA TABLE] FILE, numbers from 0 to 255'
 for program in target/examples/handover-c target/examples/handover-rust; do
     expect 0 examples/school.out '' "$program" examples/school.site
     expect 1 examples/damaged.out '' "$program" examples/damaged.site
@@ -337,6 +390,18 @@ for program in target/examples/handover-{c,rust}; do
     cmp "$work/kept.site" "$work/saved.site" || fail "$program --change: the file is not saved"
     cmp "$work/school.site" examples/school.site || fail "$program --change: it writes where it should not"
 done
+# Who would lose what by a line: area 3, no longer loop 2, imports table 9, which the hall lends to the club around it;
+# and panel 2 exports table 20, which is stored there.
+{ cat examples/change.in && echo '12 0 4 9'; } >"$work/cut.in"
+{ sed -n '1s/line 3/line 8/p' examples/change-refused.out
+  echo 'Area 3 borrows table 9 and would no longer have access to it.'; } >"$work/cut.out"
+echo '8 3 5 20' >"$work/stored.in"
+{ sed -n '1s/line 3/line 1/p' examples/change-refused.out
+  echo "Area 5 'Panel 2' lends table 20 and would no longer have access to it."; } >"$work/stored.out"
+for program in target/examples/handover-{c,rust}; do
+    expect_change school "$work/cut.in" 1 "$work/cut.out" '' "$program"
+    expect_change school "$work/stored.in" 1 "$work/stored.out" '' "$program"
+done
 # Each number that a line can be refused with.
 while read -r number line; do
     expect_refused_line "$number" "$line"
@@ -360,6 +425,42 @@ for line in '' 1 '1 0 9' '1 0 9 0 0' ' 1 0 9 0' '1 0 9 0 ' '1  0 9 0' '01 0 9 0'
     expect_refused_line 13 "$line"
 done
 
+# Why an area sees a table, or why not. In the changed site the school and the main house lie in each other, and the
+# school imports table 9.
+cp examples/school.site "$work/ring.site"
+printf '5 0 0 1\n9 0 0 9\n' | target/examples/handover-c --change "$work/ring.site" >"$work/log"
+printf '%s\n' "Area 0 'School' sees table 9 over 2 steps." "The table is stored on area 2 'Panel 1'." \
+    "Area 2 'Panel 1' lies in area 1 'Main house' and lends it the table." \
+    "Area 1 'Main house' lends the table to area 0 'School', which also borrows it: each lies in the other." \
+    >"$work/ring.out"
+for program in target/examples/handover-{c,rust}; do
+    while read -r area table name; do
+        expect 0 "examples/why-$name.out" '' "$program" --why "$area" "$table" examples/school.site
+    done <<<$'5 9 chain\n2 9 definer\n3 9 no-access\n0 0 nobody-else\n005 0009 chain'
+    while read -r area table name; do
+        expect 1 "examples/why-$name.out" '' "$program" --why "$area" "$table" examples/school.site
+    done <<<$'9 9 not-listed\n4 30 not-listed\n32 9 out-of-range\n4 64 out-of-range\n255 30 out-of-range'
+    expect 0 "$work/ring.out" '' "$program" --why 0 9 "$work/ring.site"
+    expect 1 examples/damaged.out '' "$program" --why 5 9 examples/damaged.site
+    expect 2 /dev/null "$usage" "$program" --why
+    expect 2 /dev/null "$usage" "$program" --why 5 9
+    expect 2 /dev/null "$usage" "$program" --why 5 examples/school.site
+    expect 2 /dev/null "$usage" "$program" --why examples/school.site 5 9
+    expect 2 /dev/null "$usage" "$program" --why 5 9 examples/school.site examples/school.site
+    expect 2 /dev/null "$usage" "$program" --change --why 5 9 examples/school.site
+    for wrong in "${wrong_numbers[@]}"; do
+        expect 2 /dev/null "$usage" "$program" --why "$wrong" 9 examples/school.site
+        expect 2 /dev/null "$usage" "$program" --why 5 "$wrong" examples/school.site
+    done
+    expect 2 /dev/null "handover: the file can't be read" "$program" --why 5 9 "$work/nowhere"
+    # shellcheck disable=SC2016 # the inner shell fills in its own arguments
+    expect 2 /dev/null "handover: the output can't be written" \
+        sh -c '"$1" --why 5 9 examples/school.site >/dev/full' sh "$program"
+done
+for area in {0..8}; do
+    for table in 0 9 20; do expect_same 0 handover --why "$area" "$table" examples/school.site; done
+done
+
 usage='usage: opening FILE ACTIVATOR SCHOOL HALL KEYHOLDER TABLE, numbers from 0 to 255'
 for program in target/examples/opening-c target/examples/opening-rust; do
     expect 0 examples/opening-accepted.out '' "$program" examples/school.site 0 9 10 14 30
@@ -371,7 +472,7 @@ for program in target/examples/opening-c target/examples/opening-rust; do
     expect 2 /dev/null "$usage" "$program"
     expect 2 /dev/null "$usage" "$program" examples/school.site 0 9 10 14
     expect 2 /dev/null "$usage" "$program" examples/school.site 0 9 10 14 30 30
-    for wrong in 256 1000000000000000000000 -1 +1 '' ' 1' 1/ 1: 0x1; do
+    for wrong in "${wrong_numbers[@]}"; do
         expect 2 /dev/null "$usage" "$program" examples/school.site "$wrong" 9 10 14 30
         expect 2 /dev/null "$usage" "$program" examples/school.site 0 9 10 14 "$wrong"
     done
@@ -397,8 +498,8 @@ done <<END
 8 6 examples/school.site 0 9 10 0 30
 END
 echo "interface: $runs runs of the examples, which in C and in Rust print what is stored for the school, for its" \
-    'change and for openings, save the same bytes, and have the same words for each refusal of a file, of a line or' \
-    'of an opening'
+    'change, for what its keyholders ask and for openings, save the same bytes, and have the same words for each' \
+    'refusal of a file, of a line, of a question or of an opening'
 
 PANELRIGHTS_LIB_DIR=$work/usr/lib quietly cargo test --quiet --locked --manifest-path bindings/rust/Cargo.toml
 passed=$(awk '/^test result: ok/ { passed += $4 } END { print passed + 0 }' "$work/log")

@@ -8,7 +8,7 @@ cd "$(dirname "$0")/.."
 
 [ $# -eq 0 ] || { echo 'usage: fields.sh' >&2; exit 2; }
 
-known=' state counts readings updates validity inspection refusals machine site_tables site_writer record_reader record_writer refinement examples '
+known=' state counts readings updates validity inspection refusals machine explain site_tables site_writer record_reader record_writer refinement examples '
 field='\.(users|areas|objects|owners|definitions|structure|imports|exports)([^A-Za-z0-9_(]|$)'
 faults=0 crates=0
 

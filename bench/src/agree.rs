@@ -12,7 +12,7 @@ use chance::Chance;
 use std::fmt::Display;
 
 /// Demands one answer, and the state of the plain baseline from the other two as well.
-fn demand<N: PartialEq + Display>(answers: [N; 3], states: [bool; 2], asked: impl FnOnce() -> String) {
+pub fn demand<N: PartialEq + Display>(answers: [N; 3], states: [bool; 2], asked: impl FnOnce() -> String) {
     let [library, plain, ideal] = answers;
     assert!(
         library == plain && plain == ideal && states == [true, true],
@@ -122,7 +122,7 @@ pub fn lowest_mark(marks: u8) -> u8 {
 }
 
 /// The record by its numbers and pairs.
-fn tell(s: &Record) -> String {
+pub fn tell(s: &Record) -> String {
     let members = |list: &[bool]| -> Vec<usize> { (0..list.len()).filter(|&i| list[i]).collect() };
     let pairs = |list: &[bool]| -> Vec<(usize, usize)> { members(list).iter().map(|&at| (at / 32, at % 32)).collect() };
     format!(

@@ -1,5 +1,6 @@
 //! What the comparison has met of the limit on steps. It is counted by chains of any length.
 
+use crate::plain::moves;
 use crate::record::{cell, Record};
 use crate::rules::{self, Bytes, Instruction, AREAS, MOST_STEPS, NO_ACCESS, OBJECTS};
 use std::array::from_fn;
@@ -54,15 +55,8 @@ impl Borders {
     }
 }
 
-/// Does the object move in one step from the one area to the other?
-fn moves(s: &Record, object: usize, from: usize, to: usize) -> bool {
-    let exported = s.exports[cell(object, from)] && s.structure[cell(from, to)];
-    let imported = s.imports[cell(object, to)] && s.structure[cell(to, from)];
-    exported || imported
-}
-
 /// For each area the number of steps in a shortest chain, however many they are.
-fn lengths(s: &Record, object: usize) -> [u8; AREAS] {
+pub fn lengths(s: &Record, object: usize) -> [u8; AREAS] {
     let mut lengths = from_fn(|a| if s.definitions[cell(object, a)] { 0 } else { NO_ACCESS });
     for steps in 1..AREAS as u8 {
         let is_next = |to: usize| (0..AREAS).any(|from| lengths[from] == steps - 1 && moves(s, object, from, to));

@@ -6,7 +6,7 @@ use crate::rows::{holds, Rows};
 use crate::rules::{self, Bytes, Instruction, AREAS, MOST_STEPS, NO_ACCESS, OBJECTS, REFUSED, USERS};
 
 /// The relation with each pair turned round: blocks of 16, 8, 4, 2 and 1 change places across the diagonal.
-fn turned(rows: &[u32; AREAS]) -> [u32; AREAS] {
+pub fn turned(rows: &[u32; AREAS]) -> [u32; AREAS] {
     let mut t = *rows;
     let mut width = 16;
     let mut low = 0x0000_ffff;
@@ -25,14 +25,14 @@ fn turned(rows: &[u32; AREAS]) -> [u32; AREAS] {
 }
 
 /// What a search goes by: a state, and its structure turned round.
-struct Moves<'a> {
-    s: &'a Rows,
-    turned: &'a [u32; AREAS],
+pub struct Moves<'a> {
+    pub s: &'a Rows,
+    pub turned: &'a [u32; AREAS],
 }
 
 impl Moves<'_> {
     /// Where the object moves in one step from the area.
-    fn from(&self, object: usize, area: usize) -> u32 {
+    pub fn from(&self, object: usize, area: usize) -> u32 {
         let exported = if holds(self.s.exports[object], area) {
             self.s.structure[area]
         } else {
@@ -42,7 +42,7 @@ impl Moves<'_> {
     }
 
     /// Where it moves in one step from the areas of the set.
-    fn step(&self, object: usize, mut areas: u32) -> u32 {
+    pub fn step(&self, object: usize, mut areas: u32) -> u32 {
         let mut to = 0;
         while areas != 0 {
             to |= self.from(object, areas.trailing_zeros() as usize);
@@ -52,7 +52,7 @@ impl Moves<'_> {
     }
 
     /// Has each area of the set access to the object? Layer by layer, up to the limit.
-    fn reach(&self, object: usize, wanted: u32) -> bool {
+    pub fn reach(&self, object: usize, wanted: u32) -> bool {
         let mut layer = self.s.definitions[object];
         let mut reached = layer;
         let mut count = 0;
@@ -129,7 +129,7 @@ pub fn borrows_from_others(s: &Rows) -> bool {
     own == 0
 }
 
-fn are_sound(moves: &Moves) -> bool {
+pub fn are_sound(moves: &Moves) -> bool {
     is_well_formed(moves.s) && borrows_from_others(moves.s) && moves.are_valid()
 }
 

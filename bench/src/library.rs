@@ -37,6 +37,27 @@ pub fn access(state: &RecordBytes, area: u32, object: u32) -> u16 {
     unsafe { sys::panelrights_access(state.as_ptr(), state.len(), area, object) }
 }
 
+/// The number of bytes of the chain that it writes, 512 and that of the counts, or 256 and the refusal.
+pub fn explain(state: &RecordBytes, area: u32, object: u32, buffer: &mut [u8]) -> u16 {
+    // SAFETY: as above, for both; what is borrowed to be read doesn't overlap what is borrowed to be written.
+    unsafe {
+        sys::panelrights_explain(
+            state.as_ptr(),
+            state.len(),
+            area,
+            object,
+            buffer.as_mut_ptr(),
+            buffer.len(),
+        )
+    }
+}
+
+/// The number that a step would get, and for 11 the first pair that would be lost.
+pub fn explain_step(state: &RecordBytes, [code, activator, a, b]: Bytes) -> u32 {
+    // SAFETY: as above.
+    unsafe { sys::panelrights_explain_step(state.as_ptr(), state.len(), code, activator, a, b) }
+}
+
 /// The refusal of the file, 0 for none; the record becomes that of its state, or of the founding state.
 pub fn read(file: &[u8], state: &mut RecordBytes) -> u8 {
     // SAFETY: as above, for both; a borrowed slice and an array borrowed to be written don't overlap.

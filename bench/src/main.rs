@@ -1,23 +1,27 @@
 //! Measures the library over the C interface beside two baselines in Rust, one plain and one ideal, in one run: the
-//! step, the recipe, the access question, the reader and the writer of site files and the lowest mark; and the program
-//! PanelRights beside a session in plain Rust. Before that it compares the answers of the three on random instructions,
-//! of which an argument gives the number, with questions and files on the way, on half as many random recipes, and on
-//! every byte of marks.
+//! step, the recipe, the access question, the explanations, the reader and the writer of site files and the lowest
+//! mark; and the program PanelRights beside a session in plain Rust. Before that it compares the answers of the three
+//! on random instructions, of which an argument gives the number, with questions and files on the way, on half as many
+//! random recipes and explanations, and on every byte of marks.
 
 #![deny(unsafe_code)]
 
 mod agree;
+mod agree_explanations;
 mod agree_recipes;
 mod area_lists;
 mod borders;
+mod explanation;
 mod files;
 mod ideal;
+mod ideal_explanation;
 mod ideal_reader;
 mod ideal_writer;
 #[allow(unsafe_code)]
 mod library;
 mod openings;
 mod plain;
+mod plain_explanation;
 mod plain_reader;
 mod plain_writer;
 mod program;
@@ -52,8 +56,11 @@ fn main() {
     agree_recipes::compare(compared / 2)
         .into_iter()
         .for_each(|line| report.say(line));
-    report.say(area_lists::compare());
     let states = States::new();
+    agree_explanations::compare(compared / 2, &states)
+        .into_iter()
+        .for_each(|line| report.say(line));
+    report.say(area_lists::compare());
     let mut races = races::all(&states);
     timing::run(&mut races);
     races.iter().for_each(|race| report.race(race));

@@ -4,8 +4,15 @@ use crate::recipe::{self, Call};
 use crate::record::{cell, Record};
 use crate::rules::{self, Bytes, Instruction, AREAS, MOST_STEPS, NO_ACCESS, OBJECTS, REFUSED, USERS};
 
+/// Does the object move in one step from the one area to the other?
+pub fn moves(s: &Record, object: usize, from: usize, to: usize) -> bool {
+    let exported = s.exports[cell(object, from)] && s.structure[cell(from, to)];
+    let imported = s.imports[cell(object, to)] && s.structure[cell(to, from)];
+    exported || imported
+}
+
 /// For each area the number of steps in a shortest chain: a search with a queue, which ends where the limit is reached.
-fn counts(s: &Record, object: usize) -> [u8; AREAS] {
+pub fn counts(s: &Record, object: usize) -> [u8; AREAS] {
     let row = object * AREAS;
     let mut counts = [NO_ACCESS; AREAS];
     let mut queue = [0; AREAS];
@@ -27,6 +34,7 @@ fn counts(s: &Record, object: usize) -> [u8; AREAS] {
             if counts[to] != NO_ACCESS {
                 continue;
             }
+            // Not by `moves`, which is slower here.
             let exported = s.exports[row + from] && s.structure[cell(from, to)];
             let imported = s.imports[row + to] && s.structure[cell(to, from)];
             if exported || imported {

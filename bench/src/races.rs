@@ -1,20 +1,22 @@
-//! What is timed: the step, the recipe, the access question, the reader, the writer and the lowest mark, over the C
-//! interface and beside the two baselines.
+//! What is timed: the step, the recipe, the access question, the explanations, the reader, the writer and the lowest
+//! mark, over the C interface and beside the two baselines.
 //!
 //! In the time is what a caller pays. The library gets the bytes of a record by pointer and length; the baselines get a
 //! state of their own. Nobody keeps anything between calls.
 
 use crate::area_lists::AreaList;
+use crate::explanation::{lost, COUNTS, EXPORT, IMPORT, ROOM};
 use crate::openings::{imports, misformed, refused_last, two_schools};
 use crate::recipe::{refused, Call};
 use crate::record::{Record, RECORD_BYTES};
 use crate::rows::Rows;
-use crate::rules::{Bytes, MOST_STEPS};
+use crate::rules::{Bytes, AREAS, MOST_STEPS};
 use crate::site_file::FILE_MOST;
-use crate::states::{farthest, States};
+use crate::states::{farthest, last_cut, unreached, States};
 use crate::timing::Race;
 use crate::{
-    agree, area_lists, files, ideal, ideal_reader, ideal_writer, library, plain, plain_reader, plain_writer, random,
+    agree, agree_explanations, area_lists, files, ideal, ideal_explanation, ideal_reader, ideal_writer, library, plain,
+    plain_explanation, plain_reader, plain_writer, random,
 };
 use chance::Chance;
 use std::hint::black_box;
@@ -24,6 +26,8 @@ pub fn all(s: &States) -> Vec<Race<'_>> {
     let races = steps(s).into_iter().chain(recipes(s));
     races
         .chain(questions(s))
+        .chain(explanations(s))
+        .chain(reasons(s))
         .chain(readings(s))
         .chain(writings(s))
         .chain(area_lists())
@@ -137,6 +141,65 @@ fn questions(s: &States) -> [Race<'_>; 5] {
         let by_plain = move || plain::access(black_box(s), black_box(area), black_box(object));
         let by_ideal = move || ideal::access(black_box(&rows), black_box(area), black_box(object));
         Race::new(format!("access {name}"), by_library, by_plain, by_ideal).limited()
+    })
+}
+
+/// The chain is written, or the counts where the area lacks access, into one buffer that is not cleared between calls.
+fn explanations(s: &States) -> [Race<'_>; 8] {
+    let (area, object, steps) = farthest(&s.random, MOST_STEPS);
+    let counts = COUNTS + AREAS as u16;
+    let cases = [
+        ("chain outward", &s.chain, (15, 62, 9)),
+        ("chain inward", &s.chain, (16, 63, 9)),
+        ("dense", &s.dense, (31, 9, 2)),
+        ("random", &s.random, (area, object, steps + 1)),
+        ("small", &s.small, (0, 9, 3)),
+        ("chain, no access", &s.chain, (31, 62, counts)),
+        (
+            "random, no access",
+            &s.random,
+            (unreached(&s.random, object), object, counts),
+        ),
+        ("small, no access", &s.unlent, (0, 9, counts)),
+    ];
+    cases.map(|(name, s, (area, object, expected))| {
+        let answer = agree_explanations::explain(s, area, object, ROOM).0;
+        assert_eq!(answer, expected, "{name}: another answer");
+        let (record, rows) = (s.bytes(), Rows::of(s));
+        let [mut for_library, mut for_plain, mut for_ideal] = [[0; ROOM]; 3];
+        let by_library =
+            move || library::explain(black_box(&record), black_box(area), black_box(object), &mut for_library);
+        let by_plain =
+            move || plain_explanation::explain(black_box(s), black_box(area), black_box(object), &mut for_plain);
+        let by_ideal =
+            move || ideal_explanation::explain(black_box(&rows), black_box(area), black_box(object), &mut for_ideal);
+        Race::new(format!("explain {name}"), by_library, by_plain, by_ideal).limited()
+    })
+}
+
+/// Removals that are refused as 11, and two instructions that are not. No state is copied: ideal changes its own and
+/// changes it back.
+fn reasons(s: &States) -> [Race<'_>; 9] {
+    let (cut, named) = last_cut(&s.random);
+    let cases: [(&str, &Record, Bytes, u32); 9] = [
+        ("dense, definition", &s.dense, [8, 0, 31, 63], lost(IMPORT, 63, 0)),
+        ("chain, cut", &s.chain, [6, 0, 30, 31], lost(IMPORT, 1, 23)),
+        ("chain, last cut", &s.chain, [6, 0, 0, 1], lost(IMPORT, 47, 0)),
+        ("chain, import", &s.chain, [10, 0, 23, 63], lost(IMPORT, 63, 16)),
+        ("chain, export", &s.chain, [12, 0, 7, 62], lost(EXPORT, 62, 8)),
+        ("random, cut", &s.random, cut, named),
+        ("small", &s.small, [12, 0, 1, 9], lost(IMPORT, 9, 0)),
+        ("chain, accepted", &s.chain, [12, 0, 14, 62], 0),
+        ("chain, not there", &s.chain, [12, 0, 15, 62], 7),
+    ];
+    cases.map(|(name, s, bytes, expected)| {
+        let answer = agree_explanations::explain_step(s, bytes);
+        assert_eq!(answer, expected, "{name}: another answer");
+        let (record, mut rows) = (s.bytes(), Rows::of(s));
+        let by_library = move || library::explain_step(black_box(&record), black_box(bytes));
+        let by_plain = move || plain_explanation::explain_step(black_box(s), black_box(bytes));
+        let by_ideal = move || ideal_explanation::explain_step(black_box(&mut rows), black_box(bytes));
+        Race::new(format!("explain step {name}"), by_library, by_plain, by_ideal).limited()
     })
 }
 

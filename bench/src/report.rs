@@ -6,8 +6,8 @@ use std::process::Command;
 
 const DOCUMENT: &str = concat!(env!("CARGO_MANIFEST_DIR"), "/../docs/BENCHMARKS.md");
 
-/// The limits on steps, questions, readings and writings: the library takes at most so many times what ideal takes, and
-/// less than so many times what plain takes.
+/// The limits on steps, questions, explanations, readings and writings: the library takes at most so many times what
+/// ideal takes, and less than so many times what plain takes.
 const BY_IDEAL: f64 = 2.0;
 const BY_PLAIN: f64 = 0.5;
 
@@ -53,7 +53,7 @@ impl Report {
             none if none.is_empty() => "held".to_string(),
             over => format!("not held by {over}"),
         });
-        let lines = "on every line of step, access, read and write";
+        let lines = "on every line of step, access, explain, read and write";
         self.say(format!(
             "bench limits: library at most {BY_IDEAL:.2} ideal {lines}: {by_ideal}"
         ));

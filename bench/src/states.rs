@@ -3,8 +3,8 @@
 use crate::random::{self, Span, WHOLE};
 use crate::record::{cell, Record};
 use crate::rows::Rows;
-use crate::rules::{Bytes, MOST_STEPS};
-use crate::{ideal, plain};
+use crate::rules::{Bytes, MOST_STEPS, NO_ACCESS};
+use crate::{ideal, ideal_explanation, plain};
 use chance::Chance;
 
 pub struct States {
@@ -13,6 +13,7 @@ pub struct States {
     pub chain: Record,
     pub random: Record,
     pub small: Record,
+    pub unlent: Record,
     pub stock: Record,
     pub spare: Spare,
 }
@@ -32,7 +33,8 @@ impl States {
             dense: dense(),
             chain: chain(WHOLE),
             random: random(6_000, WHOLE),
-            small: small(),
+            small: session(8),
+            unlent: session(7),
             stock: stock(),
             spare: Spare {
                 dense: largest(SPARE),
@@ -52,6 +54,29 @@ pub fn farthest(s: &Record, most: u8) -> (u32, u32, u16) {
         .filter(|answer| answer.2 <= u16::from(most))
         .max_by_key(|answer| answer.2)
         .expect("an object is listed")
+}
+
+/// The lowest area that lacks access to the object.
+pub fn unreached(s: &Record, object: u32) -> u32 {
+    let rows = Rows::of(s);
+    (0..32)
+        .find(|&area| ideal::access(&rows, area, object) == u16::from(NO_ACCESS))
+        .expect("a listed area lacks access")
+}
+
+/// The cut of a structure pair that is refused as 11 with the last pair in the order of document 02's point 5, and the
+/// answer.
+pub fn last_cut(s: &Record) -> (Bytes, u32) {
+    let mut rows = Rows::of(s);
+    let all = (0..32).flat_map(|user| (0..32).flat_map(move |a| (0..32).map(move |b| [6, user, a, b])));
+    let answers = all.map(|bytes| (bytes, ideal_explanation::explain_step(&mut rows, bytes)));
+    answers
+        .filter(|(_, answer)| answer % 256 == 11)
+        .max_by_key(|(_, answer)| {
+            let [_, kind, object, area] = answer.to_le_bytes();
+            [kind, object, area]
+        })
+        .expect("a cut is refused as 11")
 }
 
 /// All users, areas and objects of the span, each user an owner of each area, and the objects defined by turns in the
@@ -135,9 +160,9 @@ fn random(accepted: u32, span: Span) -> Record {
     s
 }
 
-/// The session of document 01, up to line 8.
-fn small() -> Record {
-    let session: [Bytes; 8] = [
+/// What the session of document 01 leads to, up to this line, which is the eighth at most.
+fn session(line: usize) -> Record {
+    const SESSION: [Bytes; 8] = [
         [1, 0, 1, 0],
         [1, 0, 2, 0],
         [5, 0, 1, 2],
@@ -148,7 +173,7 @@ fn small() -> Record {
         [9, 0, 0, 9],
     ];
     let mut s = Record::founding();
-    for bytes in session {
+    for bytes in SESSION.into_iter().take(line) {
         // Line 6 is refused.
         s = plain::step(&s, bytes).unwrap_or(s);
     }
@@ -157,7 +182,7 @@ fn small() -> Record {
 
 /// Small, and objects 16 to 31, which area 2 defines.
 fn stock() -> Record {
-    let mut s = small();
+    let mut s = session(8);
     for o in 16..32 {
         s.objects[o] = true;
         s.definitions[cell(o, 2)] = true;

@@ -1,13 +1,13 @@
 //! "The access rule is a layer by itself, and the machine, the reader and every tool use it through its promise only."
 //!
 //! The promise: [`shortest_chain`] is the least number of steps from the defining area, or `None` where no chain of
-//! [`MOST_STEPS`] steps or fewer leads.
+//! [`MOST_STEPS`] steps or fewer leads; [`reach`] has it for each area that has access.
 
 use crate::state::{beside, firsts, State};
 use std::collections::{BTreeMap, BTreeSet};
 
 /// Document 02, point 2: "The product committee has ruled that a table may be lent across at most 8 steps."
-const MOST_STEPS: u8 = 8;
+pub(crate) const MOST_STEPS: u8 = 8;
 
 /// "An object moves one *step* from s to r in two cases." The r of both cases, for the object and one s, as far as they are in `among`.
 fn steps_from<'a>(state: &'a State, object: u8, s: u8, among: &'a BTreeSet<u8>) -> impl Iterator<Item = u8> + 'a {
@@ -31,7 +31,7 @@ fn imported_from<'a>(state: &'a State, object: u8, s: u8, among: &'a BTreeSet<u8
 /// Document 02, point 2: "Access now means a chain of 8 steps or fewer, everywhere: the question, imports, removals and files."
 ///
 /// Breadth first: each area with access, with "the number of steps in a shortest chain, 0 for the defining area".
-fn reach(state: &State, object: u8) -> BTreeMap<u8, u8> {
+pub(crate) fn reach(state: &State, object: u8) -> BTreeMap<u8, u8> {
     let mut reached = BTreeMap::new();
     let mut unreached: BTreeSet<u8> = (0..State::AREAS).collect();
     let mut layer: BTreeSet<u8> = beside(&state.definitions, object).collect();

@@ -1,5 +1,5 @@
-//! The site access state machine of document 01, with points 1, 2, 3, 4, 7 and 11 of document 02, written a second time:
-//! sets of pairs instead of rows of bits.
+//! The site access state machine of document 01, with points 1, 2, 3, 4, 5, 7 and 11 of document 02, written a second
+//! time: sets of pairs instead of rows of bits.
 //!
 //! Each module follows one section of document 01 or one point of document 02, and each function quotes the sentence that it stands
 //! for; it is document 01's where no other document is named. docs/READINGS.md says how open places of both documents are read.
@@ -8,6 +8,7 @@
 #![warn(missing_docs)]
 
 mod access;
+mod chains;
 mod instructions;
 mod labels;
 mod lending;
@@ -22,8 +23,11 @@ mod small;
 mod soundness;
 mod state;
 mod taking_back;
+mod true_reason;
+mod why;
 mod writing;
 
+pub use chains::{count_shortest_chains, shortest_chains};
 pub use instructions::{run, step, step_record};
 pub use labels::Labels;
 pub use lending::{lending_guarantee, lending_guarantee_of_commands};
@@ -38,4 +42,7 @@ pub use site_file::{label, label_block, read_file, write_file, MOST_FILE_BYTES};
 pub use small::small_states;
 pub use state::State;
 pub use taking_back::{matching_remove, taken_back};
+pub use true_reason::{are_least_counts, is_first_chain, is_first_lost};
+pub use why::{explain, explain_record, explain_step, explain_step_record, explanation_number, lost_pairs};
+pub use why::{step_reason_number, Entry, Explanation, Lost, StepReason};
 pub use writing::{bad_block, write, write_record, BadBlock};

@@ -1,4 +1,4 @@
-//! The examples of document 01, points 1, 2, 3, 4, 7 and 11 of document 02, and the readings 1 to 15, 17 and 18
+//! The examples of document 01, points 1, 2, 3, 4, 5, 7 and 11 of document 02, and the readings 1 to 15 and 17 to 19
 //! of docs/READINGS.md.
 
 use reference::*;
@@ -4171,6 +4171,996 @@ fn point_3_blocks_in_disorder() {
         }
     }
     assert_eq!(alone.len(), 8, "{alone:?}");
+}
+
+// Document 02, point 5: why the screen says so
+
+/// What the explainer answers and leaves in the buffer, on the state and on its record.
+fn explained(state: &State, area: u32, object: u32, buffer: &[u8]) -> (Explanation, Vec<u8>) {
+    let (mut of_state, mut of_record) = (buffer.to_vec(), buffer.to_vec());
+    let explanation = explain(state, area, object, &mut of_state);
+    let by_record = explain_record(&to_record(state), area, object, &mut of_record);
+    assert_eq!((by_record, &of_record), (explanation, &of_state));
+    (explanation, of_state)
+}
+
+/// Asserts that the answer and the bytes come into a buffer of 32 bytes or more, that all others stay, and that a
+/// shorter buffer is 31.
+fn is_explained(state: &State, area: u8, object: u8, answer: Explanation, bytes: &[u8]) {
+    for (length, salt) in [(32, 0), (32, 171), (33, 0), (33, 171), (300, 0), (300, 171)] {
+        let buffer = lent_buffer(length, salt);
+        let whole = [bytes, &buffer[bytes.len()..]].concat();
+        assert_eq!(
+            explained(state, area.into(), object.into(), &buffer),
+            (answer, whole),
+            "area {area}"
+        );
+    }
+    for length in [31, 30, 9, 1, 0] {
+        explain_refused(state, area.into(), object.into(), length, 31);
+    }
+}
+
+/// Asserts the number for a buffer of the length, and that no byte of it changes.
+fn explain_refused(state: &State, area: u32, object: u32, length: usize, number: u8) {
+    for buffer in [lent_buffer(length, 0), lent_buffer(length, 171)] {
+        let explanation = Explanation::Refused(number);
+        assert_eq!(
+            explained(state, area, object, &buffer),
+            (explanation, buffer),
+            "{area} {object} {length}"
+        );
+    }
+}
+
+/// Asserts that the chain explains the access of its last area to object 9, for the judge too.
+fn has_chain(state: &State, chain: &[u8]) {
+    let area = chain[chain.len() - 1];
+    is_explained(state, area, 9, Explanation::Chain(chain.len()), chain);
+    assert_eq!(access(state, area.into(), 9), Ok(Some(chain.len() as u8 - 1)));
+    assert!(is_first_chain(state, area, 9, chain));
+}
+
+/// Asserts that the counts explain why the area lacks access to object 9, for the judge too.
+fn has_counts(state: &State, area: u8, counts: [u8; 32]) {
+    is_explained(state, area, 9, Explanation::Counts(32), &counts);
+    assert_eq!(access(state, area.into(), 9), Ok(None));
+    assert!(are_least_counts(state, 9, &counts));
+    assert_eq!(
+        (shortest_chains(state, area, 9), count_shortest_chains(state, area, 9)),
+        (vec![], 0)
+    );
+}
+
+/// 32 counts, 255 but for the areas given.
+fn counts(of: &[(usize, u8)]) -> [u8; 32] {
+    let mut counts = [255; 32];
+    of.iter().for_each(|&(area, count)| counts[area] = count);
+    counts
+}
+
+/// Two states of user 0, in which object 9 is defined in the first area of the chains and moves along each of them and
+/// not otherwise: by imports in the one, which the definer itself may not have, by exports in the other.
+fn along(chains: &[&[u8]]) -> [State; 2] {
+    let areas: BTreeSet<u8> = chains.concat().into_iter().filter(|&area| area != 0).collect();
+    let mut start = State::founding();
+    let listing = areas.into_iter().map(|area| [1, 0, area, 0]);
+    for instruction in listing.chain([[7, 0, chains[0][0], 9]]) {
+        start = step(&start, instruction).expect("accepted");
+    }
+    let steps = || chains.iter().flat_map(|chain| chain.windows(2)).map(|two| (two[0], two[1]));
+    let inwards = steps().fold(start.clone(), |state, (s, r)| run(&state, &[[5, 0, r, s], [9, 0, r, 9]]));
+    let outwards = steps().fold(start, |state, (s, r)| run(&state, &[[5, 0, s, r], [11, 0, s, 9]]));
+    [inwards, outwards]
+}
+
+/// Asserts the chain of object 9 among others that are there, by imports and by exports, and how many are shortest.
+fn first_among(chain: &[u8], others: &[&[u8]], shortest: u64) {
+    let area = chain[chain.len() - 1];
+    let mut all = others.to_vec();
+    for place in 0..=others.len() {
+        all.insert(place, chain); // the order in which they were made is of no account
+        for state in along(&all) {
+            has_chain(&state, chain);
+            assert_eq!(count_shortest_chains(&state, area, 9), shortest);
+            let listed: BTreeSet<Vec<u8>> = shortest_chains(&state, area, 9).into_iter().collect();
+            assert_eq!(listed.len() as u64, shortest);
+            assert!(others.iter().all(|other| !is_first_chain(&state, area, 9, other)));
+        }
+        all.remove(place);
+    }
+}
+
+/// The session: area 1 defines and exports object 9, areas 0 and 1 lie in area 2, area 0 imports it. Area 2 has access
+/// "with no entry of its own".
+#[test]
+fn point_5_session() {
+    let after_line_8 = run(&State::founding(), &SESSION[..8]);
+    has_chain(&after_line_8, &[1, 2, 0]);
+    has_chain(&after_line_8, &[1, 2]);
+    has_chain(&after_line_8, &[1]);
+    // line 6 was refused: before line 7 nothing leaves area 1
+    let after_line_6 = run(&State::founding(), &SESSION[..6]);
+    for area in [0, 2] {
+        has_counts(&after_line_6, area, counts(&[(1, 0)]));
+    }
+    let end = run(&State::founding(), SESSION);
+    has_chain(&end, &[1, 2]);
+    has_counts(&end, 0, counts(&[(1, 0), (2, 1)]));
+}
+
+/// Document 02, point 5: "among those the one with the lowest numbers compared from the front"
+#[test]
+fn point_5_lowest_from_the_front_and_not_from_the_back() {
+    first_among(&[0, 1, 8, 9], &[&[0, 2, 3, 9]], 2);
+    first_among(&[7, 1, 30, 2], &[&[7, 4, 5, 2]], 2); // 1 + 30 is more than 4 + 5
+    first_among(&[31, 10, 30, 29, 0], &[&[31, 11, 1, 2, 0], &[31, 12, 3, 4, 0]], 3);
+    first_among(&[20, 0, 31, 1, 30, 25], &[&[20, 2, 3, 4, 5, 25]], 2);
+    // the last place at which they may differ
+    first_among(&[0, 5, 6, 3, 9], &[&[0, 5, 6, 4, 9], &[0, 5, 6, 7, 9]], 3);
+    first_among(&[0, 1, 3, 9], &[&[0, 1, 5, 9], &[0, 1, 4, 9]], 3);
+    // the parts of two chains make two more, and one of those is the first
+    for state in along(&[&[0, 1, 8, 5, 9], &[0, 2, 8, 4, 9]]) {
+        has_chain(&state, &[0, 1, 8, 4, 9]);
+        assert_eq!(count_shortest_chains(&state, 9, 9), 4);
+    }
+}
+
+/// Document 02, point 5: "a shortest one": a lower number in front does not make up for a step more, nor does one that
+/// leads nowhere.
+#[test]
+fn point_5_shortest_comes_before_lowest() {
+    first_among(&[5, 30, 9], &[&[5, 0, 1, 9]], 1);
+    first_among(&[5, 9], &[&[5, 0, 9], &[5, 1, 2, 9]], 1);
+    first_among(&[0, 20, 21, 22, 9], &[&[0, 1, 2, 3, 4, 9]], 1);
+    first_among(&[0, 2, 9], &[&[0, 1], &[0, 2, 1]], 1); // area 1 is in the first layer and leads nowhere
+    first_among(&[0, 2, 4, 9], &[&[0, 1, 3], &[0, 1, 5, 6, 9]], 1); // to area 9 by area 1 it is a step more
+    first_among(&[0, 3, 9], &[&[0, 4, 9], &[0, 1, 2, 9]], 2);
+}
+
+/// Document 02, point 5, "from the definer": its own chain is one byte. A chain has steps + 1 bytes.
+#[test]
+fn point_5_chain_of_the_definer() {
+    for definer in 0..=31 {
+        let state = run(&State::founding(), &[[1, 0, definer, 0], [7, 0, definer, 9]]);
+        has_chain(&state, &[definer]);
+        assert_eq!(shortest_chains(&state, definer, 9), [[definer]]);
+    }
+    // two areas that lend to each other
+    let ring = from_f(&[[1, 0, 1, 0], [7, 0, 0, 9], [5, 0, 0, 1], [5, 0, 1, 0], [11, 0, 0, 9], [11, 0, 1, 9]]);
+    has_chain(&ring, &[0]);
+    has_chain(&ring, &[0, 1]);
+    assert_eq!((count_shortest_chains(&ring, 0, 9), count_shortest_chains(&ring, 1, 9)), (1, 1));
+}
+
+/// "Cycles of structure pairs are allowed, also an area in itself": it does not lengthen a chain.
+#[test]
+fn point_5_area_in_itself() {
+    for state in along(&[&[3, 3, 5, 5, 1], &[1, 1, 3]]) {
+        has_chain(&state, &[3]);
+        has_chain(&state, &[3, 5]);
+        has_chain(&state, &[3, 5, 1]);
+        assert!(state.structure.contains(&(5, 5)));
+        for walk in [&[3, 3][..], &[3, 3, 5, 1], &[3, 5, 5, 1], &[3, 5, 1, 1], &[3, 5, 1, 3]] {
+            assert!(!is_first_chain(&state, walk[walk.len() - 1], 9, walk));
+        }
+        assert_eq!([3, 5, 1].map(|area| count_shortest_chains(&state, area, 9)), [1, 1, 1]);
+    }
+}
+
+/// "An area may have access with no entry of its own": such areas are on chains as others are. From area 4 outwards to
+/// area 7 or 6, from either inwards to area 2, and outwards to area 8.
+#[test]
+fn point_5_mailboxes_on_a_chain() {
+    let mut list: Vec<[u8; 4]> = [2, 4, 6, 7, 8].map(|area| [1, 0, area, 0]).to_vec();
+    list.extend([[7, 0, 4, 9], [5, 0, 4, 7], [5, 0, 4, 6], [5, 0, 2, 7], [5, 0, 2, 6], [5, 0, 2, 8]]);
+    list.extend([[11, 0, 4, 9], [9, 0, 2, 9], [11, 0, 2, 9]]);
+    let state = from_f(&list);
+    for chain in [&[4][..], &[4, 7], &[4, 6], &[4, 6, 2], &[4, 6, 2, 8]] {
+        has_chain(&state, chain);
+    }
+    assert_eq!(shortest_chains(&state, 8, 9), [[4, 6, 2, 8], [4, 7, 2, 8]]);
+    has_counts(&state, 0, counts(&[(4, 0), (6, 1), (7, 1), (2, 2), (8, 3)]));
+}
+
+/// Document 02, point 2: "a chain of 8 steps or fewer": 8 steps are 9 bytes, and an area at 9 steps "lacks access".
+#[test]
+fn reading_19_chain_at_8_steps_and_counts_at_9() {
+    let of_row: Vec<(usize, u8)> = (0..=8).map(|steps| (usize::from(steps), steps)).collect();
+    for row in [row_by_imports(8), row_by_exports(7), row_by_exports(8)] {
+        let state = from_f(&row);
+        for last in 0..=8 {
+            has_chain(&state, &[0, 1, 2, 3, 4, 5, 6, 7, 8][..=last]);
+        }
+        for area in [9, 10, 31] {
+            has_counts(&state, area, counts(&of_row));
+        }
+    }
+    // the export of area 8 makes a chain of 9 steps, and it is none
+    let state = from_f(&row_by_exports(8));
+    assert_eq!(least_chain(&state, 9, 9), Some(9));
+    assert!(!is_first_chain(&state, 9, 9, &[0, 1, 2, 3, 4, 5, 6, 7, 8, 9]));
+    assert!(!are_least_counts(&state, 9, &counts(&[&of_row[..], &[(9, 9)]].concat())));
+    // a short cut of a step brings area 9 to 8 steps, and area 10 is at 9
+    let shorter = step(&state, [5, 0, 0, 2]).expect("accepted");
+    let shorter = step(&shorter, [11, 0, 9, 9]).expect("accepted");
+    has_chain(&shorter, &[0, 2, 3, 4, 5, 6, 7, 8, 9]);
+    let by_hand = [(0, 0), (1, 1), (2, 1), (3, 2), (4, 3), (5, 4), (6, 5), (7, 6), (8, 7), (9, 8)];
+    has_counts(&shorter, 10, counts(&by_hand));
+}
+
+/// Document 02, point 5: "for each of the 32 areas its least step count", of the object that is asked about.
+#[test]
+fn point_5_counts_by_hand() {
+    // area 3 defines object 9; 1 and 4 at one step, 0 and 5 at two (5 also at three), 31 at three; 2 and 6 are listed
+    let mut list: Vec<[u8; 4]> = [1, 2, 3, 4, 5, 6, 31].map(|area| [1, 0, area, 0]).to_vec();
+    list.extend([
+        [7, 0, 3, 9],
+        [5, 0, 1, 3],
+        [5, 0, 4, 3],
+        [5, 0, 0, 1],
+        [5, 0, 5, 4],
+        [5, 0, 5, 0],
+        [5, 0, 31, 0],
+    ]);
+    list.extend([1, 4, 0, 5, 31].map(|area| [9, 0, area, 9]));
+    // object 8 moves from area 6 to area 2, and to no other
+    list.extend([[7, 0, 6, 8], [5, 0, 2, 6], [9, 0, 2, 8]]);
+    let state = from_f(&list);
+    let of_9 = counts(&[(3, 0), (1, 1), (4, 1), (0, 2), (5, 2), (31, 3)]);
+    has_counts(&state, 2, of_9);
+    has_counts(&state, 6, of_9);
+    for area in [0, 1, 3, 4, 5, 31] {
+        is_explained(&state, area, 8, Explanation::Counts(32), &counts(&[(6, 0), (2, 1)]));
+    }
+    is_explained(&state, 2, 8, Explanation::Chain(2), &[6, 2]);
+    has_chain(&state, &[3, 4, 5]);
+    has_chain(&state, &[3, 1, 0, 31]);
+    // an object that nobody lends: 0 for the definer, 255 for all others, listed or not
+    let alone = from_f(&[[1, 0, 7, 0], [7, 0, 7, 9]]);
+    has_counts(&alone, 0, counts(&[(7, 0)]));
+}
+
+/// Document 02, point 5: "a buffer under 32 bytes gets 31 before them", "bytes not written stay", for each length.
+#[test]
+fn reading_19_every_length_of_a_buffer() {
+    let state = run(&State::founding(), &SESSION[..8]);
+    let lacking = run(&State::founding(), SESSION);
+    for length in 0..=100 {
+        if length < 32 {
+            explain_refused(&state, 0, 9, length, 31);
+            explain_refused(&state, 1, 9, length, 31); // one byte would do for the chain
+            explain_refused(&lacking, 0, 9, length, 31);
+            continue;
+        }
+        let (answer, left) = explained(&state, 0, 9, &vec![77; length]);
+        assert_eq!((answer, &left[..3]), (Explanation::Chain(3), &[1, 2, 0][..]));
+        assert!(left.len() == length && left[3..].iter().all(|&byte| byte == 77));
+        let (answer, left) = explained(&lacking, 0, 9, &vec![77; length]);
+        assert_eq!((answer, &left[..4]), (Explanation::Counts(32), &[255, 0, 1, 255][..]));
+        assert!(left.len() == length && left[32..].iter().all(|&byte| byte == 77));
+    }
+}
+
+/// Document 02, point 5: "Refusals for these two are those of the access question": 12, 2 and 4.
+#[test]
+fn point_5_refusals_of_the_access_question() {
+    let state = from_f(&[[7, 0, 0, 9]]);
+    for (area, object, number) in [(32, 9, 2), (0, 64, 2), (255, 9, 2), (31, 9, 4), (0, 63, 4), (1, 8, 4)] {
+        explain_refused(&state, area, object, 32, number);
+        explain_refused(&state, area, object, 300, number);
+        assert_eq!(access(&state, area, object), Err(number));
+    }
+    for above in [256, 65_536, 1 << 24, 1 << 31, u32::MAX - 255] {
+        for (area, object) in [(above, 9), (0, above + 9), (above, above + 9), (above, 8), (1, above + 9)] {
+            explain_refused(&state, area, object, 32, 2);
+        }
+    }
+    for state in unsound_states() {
+        explain_refused(&state, 0, 9, 32, 12);
+    }
+}
+
+/// Document 02, point 5: "a buffer under 32 bytes gets 31 before them": 31, 12, 2, 4, each two together and more.
+#[test]
+fn reading_19_order_of_refusals() {
+    let sound = from_f(&[[7, 0, 0, 9]]);
+    for state in unsound_states() {
+        for (area, object) in [(0, 9), (32, 9), (31, 9), (0, 63), (32, 63), (u32::MAX, u32::MAX)] {
+            explain_refused(&state, area, object, 31, 31); // 31 and 12, with 2 and 4
+            explain_refused(&state, area, object, 0, 31);
+            explain_refused(&state, area, object, 32, 12); // 12, with 2 and 4
+        }
+    }
+    for (area, object, number) in [(32, 9, 2), (31, 9, 4), (32, 63, 2), (31, 64, 2), (31, 63, 4)] {
+        explain_refused(&sound, area, object, 31, 31);
+        explain_refused(&sound, area, object, 32, number); // the last three: 2 and 4 together, and 4 twice
+    }
+}
+
+/// "or is not the record its relations have": bytes that are no record are 12, behind 31.
+#[test]
+fn reading_19_bytes_that_are_no_record() {
+    for bad in no_records() {
+        for (length, number) in [(0, 31), (31, 31), (32, 12), (300, 12)] {
+            for (area, object) in [(0, 9), (32, 64)] {
+                let mut buffer = lent_buffer(length, 0);
+                assert_eq!(explain_record(&bad, area, object, &mut buffer), Explanation::Refused(number));
+                assert_eq!(buffer, lent_buffer(length, 0));
+            }
+        }
+        let unknown = StepReason { number: 12, lost: None };
+        assert_eq!(explain_step_record(&bad, [12, 0, 1, 9]), unknown);
+        assert_eq!(explain_step_record(&bad, [0, 255, 255, 255]), unknown);
+    }
+    for round in 0..256 {
+        let record: Vec<u8> = (0..1040_usize).map(|byte| (byte * byte / 3 + byte * round + round) as u8).collect();
+        assert_eq!(explain_record(&record, 0, 0, &mut [0; 32]), Explanation::Refused(12));
+        assert_eq!(explain_step_record(&record, [6, 0, 0, 0]).number, 12);
+    }
+    let mut user_32 = State::founding();
+    user_32.users.insert(32);
+    user_32.owners.insert((32, 0));
+    assert_eq!(explain(&user_32, 0, 0, &mut [0; 32]), Explanation::Refused(12));
+}
+
+/// An import pair that is lost.
+fn import(object: u8, area: u8) -> Lost {
+    let entry = Entry::Import;
+    Lost { entry, object, area }
+}
+
+/// An export pair that is lost.
+fn export(object: u8, area: u8) -> Lost {
+    let entry = Entry::Export;
+    Lost { entry, object, area }
+}
+
+/// Asserts that the removal is refused as 11 and that just these pairs are lost, of which the first is named; on the
+/// record and for the judge too.
+fn loses(state: &State, removal: [u8; 4], lost: &[Lost]) {
+    let named = StepReason {
+        number: 11,
+        lost: Some(lost[0]),
+    };
+    assert_eq!(explain_step(state, removal), named, "{removal:?}");
+    assert_eq!(explain_step_record(&to_record(state), removal), named);
+    assert_eq!(step(state, removal), Err(11));
+    assert_eq!(lost_pairs(state, removal).into_iter().collect::<Vec<Lost>>(), lost);
+    for (place, lost) in lost.iter().enumerate() {
+        assert_eq!(is_first_lost(state, removal, lost), place == 0);
+    }
+}
+
+/// Asserts the number, and that no pair is named, nor would one that is there be the true one.
+fn has_no_pair(state: &State, instruction: [u8; 4], number: u8) {
+    let answer = StepReason { number, lost: None };
+    assert_eq!(explain_step(state, instruction), answer, "{instruction:?}");
+    assert_eq!(explain_step_record(&to_record(state), instruction), answer);
+    assert_eq!(step_reason_number(answer), u32::from(number));
+    assert_eq!(lost_pairs(state, instruction).len(), 0);
+    let imports = state.imports.iter().map(|&(object, area)| import(object, area));
+    let exports = state.exports.iter().map(|&(object, area)| export(object, area));
+    assert!(!imports.chain(exports).any(|lost| is_first_lost(state, instruction, &lost)));
+}
+
+/// Line 9 of the session, `12 0 1 9`, is refused as 11: the import of object 9 by area 0 would be lost.
+#[test]
+fn point_5_line_9_of_the_session() {
+    let after_line_8 = run(&State::founding(), &SESSION[..8]);
+    loses(&after_line_8, SESSION[8], &[import(9, 0)]);
+    assert_eq!(step_reason_number(explain_step(&after_line_8, SESSION[8])), 11 + 256 + 9 * 65_536);
+    // the other lines are not refused as 11
+    let mut state = State::founding();
+    for (place, number) in [0, 0, 0, 0, 0, 10, 0, 0, 11, 0, 0, 0].into_iter().enumerate() {
+        if number != 11 {
+            has_no_pair(&state, SESSION[place], number);
+        }
+        state = run(&state, &[SESSION[place]]);
+    }
+}
+
+/// Document 02, point 5: "imports before exports". Area 1 lies in area 0, imports object 9 from it, and exports its own
+/// object 3 to it, which area 0 exports as well.
+#[test]
+fn point_5_import_before_an_export_of_a_lower_object() {
+    let state = from_f(&[
+        [1, 0, 1, 0],
+        [7, 0, 0, 9],
+        [7, 0, 1, 3],
+        [5, 0, 1, 0],
+        [9, 0, 1, 9],
+        [11, 0, 1, 3],
+        [11, 0, 0, 3],
+    ]);
+    loses(&state, [6, 0, 1, 0], &[import(9, 1), export(3, 0)]);
+    let without_import = step(&state, [10, 0, 1, 9]).expect("accepted");
+    loses(&without_import, [6, 0, 1, 0], &[export(3, 0)]);
+    let exported_too = step(&state, [11, 0, 1, 9]).expect("accepted");
+    loses(&exported_too, [6, 0, 1, 0], &[import(9, 1), export(3, 0), export(9, 1)]);
+}
+
+/// Document 02, point 5: "then by object, then by area". Area 20 lies in area 0, which defines objects 3 and 9, and
+/// areas 1 and 5 lie in area 20.
+#[test]
+fn point_5_object_before_area() {
+    let mut list: Vec<[u8; 4]> = [1, 5, 20].map(|area| [1, 0, area, 0]).to_vec();
+    list.extend([[7, 0, 0, 3], [7, 0, 0, 9], [5, 0, 20, 0], [5, 0, 1, 20], [5, 0, 5, 20]]);
+    list.extend([[9, 0, 20, 9], [9, 0, 20, 3], [9, 0, 1, 9], [9, 0, 5, 3]]);
+    let state = from_f(&list);
+    loses(&state, [6, 0, 20, 0], &[import(3, 5), import(3, 20), import(9, 1), import(9, 20)]);
+    loses(&state, [10, 0, 20, 9], &[import(9, 1)]);
+    loses(&state, [10, 0, 20, 3], &[import(3, 5)]);
+}
+
+/// The same of exports: object 3 and 9 go from area 10 outwards to area 11, and from there to areas 1 and 5.
+#[test]
+fn point_5_object_before_area_of_exports() {
+    let mut list: Vec<[u8; 4]> = [1, 5, 10, 11].map(|area| [1, 0, area, 0]).to_vec();
+    list.extend([[7, 0, 10, 3], [7, 0, 10, 9], [5, 0, 10, 11], [5, 0, 11, 1], [5, 0, 11, 5]]);
+    list.extend([10, 11].into_iter().flat_map(|area| [[11, 0, area, 9], [11, 0, area, 3]]));
+    list.extend([[11, 0, 1, 9], [11, 0, 5, 3]]);
+    let state = from_f(&list);
+    loses(&state, [6, 0, 10, 11], &[export(3, 5), export(3, 11), export(9, 1), export(9, 11)]);
+    loses(&state, [12, 0, 10, 9], &[export(9, 1), export(9, 11)]);
+    loses(&state, [12, 0, 11, 9], &[export(9, 1)]);
+    loses(&state, [8, 0, 10, 3], &[export(3, 5), export(3, 10), export(3, 11)]);
+}
+
+/// "Testing a removal against neighbours only; the lost pair can be many steps off." Without the short cut each area of
+/// the row is one step further, and only the import of area 9 is lost.
+#[test]
+fn point_5_lost_pair_many_steps_off() {
+    let by_structure: &[[u8; 4]] = &[[5, 0, 2, 0]];
+    let by_import: &[[u8; 4]] = &[[5, 0, 20, 0], [9, 0, 20, 9], [5, 0, 3, 20]];
+    let by_export: &[[u8; 4]] = &[[5, 0, 0, 2], [11, 0, 0, 9]];
+    for (short_cut, removal) in [
+        (by_structure, [6, 0, 2, 0]),
+        (by_import, [10, 0, 20, 9]),
+        (by_import, [6, 0, 3, 20]),
+        (by_export, [12, 0, 0, 9]),
+        (by_export, [6, 0, 0, 2]),
+    ] {
+        let in_reach = from_f(&and(row_by_imports(8), short_cut));
+        has_no_pair(&in_reach, removal, 0);
+        let importing = step(&in_reach, [9, 0, 9, 9]).expect("accepted");
+        loses(&importing, removal, &[import(9, 9)]);
+        let exporting = step(&importing, [11, 0, 9, 9]).expect("accepted");
+        loses(&exporting, removal, &[import(9, 9), export(9, 9)]);
+    }
+}
+
+/// Document 02, point 5: "the first pair left": the removed pair is not, though its area lacks access as well.
+#[test]
+fn reading_19_removed_pair_is_not_named() {
+    let imports = |from: u8| (from..=8).map(|area| import(9, area)).collect::<Vec<Lost>>();
+    let exports = |from: u8| (from..=8).map(|area| export(9, area)).collect::<Vec<Lost>>();
+    let (inwards, outwards) = (from_f(&row_by_imports(8)), from_f(&row_by_exports(8)));
+    for area in 1..=7 {
+        loses(&inwards, [10, 0, area, 9], &imports(area + 1));
+        loses(&inwards, [6, 0, area, area - 1], &imports(area));
+        loses(&outwards, [12, 0, area, 9], &exports(area + 1));
+        loses(&outwards, [6, 0, area, area + 1], &exports(area + 1));
+    }
+    has_no_pair(&inwards, [10, 0, 8, 9], 0);
+    has_no_pair(&outwards, [12, 0, 8, 9], 0);
+    // area 5 exports as well: its export is left when its import is removed, and comes behind the imports
+    let both = step(&inwards, [11, 0, 5, 9]).expect("accepted");
+    loses(&both, [10, 0, 5, 9], &[imports(6), vec![export(9, 5)]].concat());
+    // area 1 imports what it has by the export of area 0; without that export its import is lost
+    let mut list = vec![[1, 0, 1, 0], [1, 0, 2, 0], [7, 0, 0, 9], [5, 0, 0, 1], [5, 0, 2, 1]];
+    list.extend([[11, 0, 0, 9], [9, 0, 1, 9], [9, 0, 2, 9]]);
+    loses(&from_f(&list), [12, 0, 0, 9], &[import(9, 1), import(9, 2)]);
+}
+
+/// Code 8: "with no definition nobody has access to it" (reading 4), the area that defined it neither.
+#[test]
+fn point_5_removed_definition() {
+    let importers: Vec<Lost> = (1..=8).map(|area| import(9, area)).collect();
+    loses(&from_f(&row_by_imports(8)), [8, 0, 0, 9], &importers);
+    loses(&from_f(&row_by_exports(1)), [8, 0, 0, 9], &[export(9, 0), export(9, 1)]);
+    // the importer is named before the definer's own export, though its number is higher
+    let both = from_f(&and(row_by_imports(1), &[[11, 0, 0, 9]]));
+    loses(&both, [8, 0, 0, 9], &[import(9, 1), export(9, 0)]);
+    // the pairs of another object are left alone
+    let two = from_f(&and(row_by_imports(2), &[[7, 0, 0, 3], [9, 0, 1, 3], [9, 0, 2, 3]]));
+    loses(&two, [8, 0, 0, 9], &[import(9, 1), import(9, 2)]);
+    loses(&two, [6, 0, 2, 1], &[import(3, 2), import(9, 2)]);
+    has_no_pair(&from_f(&row_by_imports(0)), [8, 0, 0, 9], 0);
+}
+
+/// A cycle does not keep its pairs: areas 1 and 2 lie in each other, and area 1 in area 0 as well.
+#[test]
+fn point_5_cycle_does_not_vouch_for_a_pair() {
+    let state = from_f(&[
+        [1, 0, 1, 0],
+        [1, 0, 2, 0],
+        [7, 0, 0, 9],
+        [5, 0, 1, 0],
+        [5, 0, 2, 1],
+        [5, 0, 1, 2],
+        [9, 0, 1, 9],
+        [9, 0, 2, 9],
+    ]);
+    loses(&state, [6, 0, 1, 0], &[import(9, 1), import(9, 2)]);
+    loses(&state, [6, 0, 2, 1], &[import(9, 2)]);
+    has_no_pair(&state, [6, 0, 1, 2], 0);
+    has_no_pair(&state, [10, 0, 2, 9], 0);
+}
+
+/// Document 02, point 5: "For an instruction not refused as 11 the answer is its own number or 0, and no pair."
+#[test]
+fn point_5_instructions_not_refused_as_11() {
+    has_no_pair(&from_f(&[]), [13, 0, 0, 0], 1);
+    has_no_pair(&from_f(&[]), [7, 0, 0, 64], 2);
+    has_no_pair(&from_f(&[]), [1, 5, 1, 0], 3);
+    has_no_pair(&from_f(&[]), [7, 0, 6, 0], 4);
+    has_no_pair(&from_f(&[[1, 0, 1, 0], [3, 0, 0, 4]]), [7, 4, 1, 9], 5);
+    has_no_pair(&from_f(&[]), [1, 0, 0, 0], 6);
+    has_no_pair(&from_f(&[[7, 0, 0, 9]]), [10, 0, 0, 9], 7);
+    has_no_pair(&from_f(&[[7, 0, 0, 9]]), [9, 0, 0, 9], 15);
+    has_no_pair(&from_f(&[]), [4, 0, 0, 0], 8);
+    has_no_pair(&from_f(&[[1, 0, 1, 0], [7, 0, 1, 9]]), [2, 0, 1, 0], 9);
+    has_no_pair(&from_f(&[[1, 0, 1, 0], [7, 0, 0, 9]]), [9, 0, 1, 9], 10);
+    for state in unsound_states() {
+        has_no_pair(&state, [1, 0, 1, 0], 12);
+        has_no_pair(&state, [8, 0, 0, 9], 12);
+        has_no_pair(&state, [10, 0, 9, 9], 12);
+    }
+    // removals that are refused by a number in front of 11
+    let row = from_f(&and(row_by_imports(8), &[[3, 0, 20, 4]]));
+    for (instruction, number) in [
+        ([10, 32, 1, 9], 2),
+        ([10, 5, 1, 9], 3),
+        ([8, 0, 0, 8], 4),
+        ([10, 4, 1, 9], 5),
+        ([6, 4, 2, 1], 5),
+        ([8, 0, 1, 9], 7),
+        ([12, 0, 0, 9], 7),
+    ] {
+        has_no_pair(&row, instruction, number);
+    }
+    has_no_pair(&row, [5, 0, 1, 1], 0);
+}
+
+/// The numbers that a C caller gets.
+#[test]
+fn reading_19_numbers_for_a_c_caller() {
+    assert_eq!([1, 3, 9].map(|bytes| explanation_number(Explanation::Chain(bytes))), [1, 3, 9]);
+    assert_eq!(explanation_number(Explanation::Counts(32)), 544);
+    let refusals = [31, 12, 2, 4].map(|number| explanation_number(Explanation::Refused(number)));
+    assert_eq!(refusals, [287, 268, 258, 260]);
+    for (number, lost, by_hand) in [
+        (0, None, 0),
+        (10, None, 10),
+        (15, None, 15),
+        (11, Some(import(0, 0)), 267),
+        (11, Some(export(0, 0)), 523),
+        (11, Some(import(9, 0)), 590_091),
+        (11, Some(import(0, 1)), 16_777_483),
+        (11, Some(import(63, 31)), 524_222_731),
+        (11, Some(export(63, 31)), 524_222_987),
+    ] {
+        assert_eq!(step_reason_number(StepReason { number, lost }), by_hand);
+    }
+}
+
+/// The judge of a chain: what is wrong at each of its places.
+#[test]
+fn point_5_judge_of_a_chain() {
+    for state in along(&[&[7, 1, 30, 2], &[7, 4, 5, 2], &[7, 1, 6, 8, 2], &[7, 9]]) {
+        assert!(is_first_chain(&state, 2, 9, &[7, 1, 30, 2]));
+        let wrong: [&[u8]; 13] = [
+            &[],
+            &[7],
+            &[2],
+            &[7, 1, 30],       // does not end at the area
+            &[1, 30, 2],       // does not begin at the definer
+            &[7, 30, 2],       // a step that is not there
+            &[7, 2],           // nor this one
+            &[7, 4, 5, 2],     // a shortest one, and not the lowest
+            &[7, 1, 6, 8, 2],  // lower at its third place, and a step longer
+            &[2, 30, 1, 7],    // turned round
+            &[7, 1, 30, 2, 2], // area 2 does not lie in itself
+            &[7, 7, 1, 30, 2], // nor does area 7
+            &[7, 1, 30, 255],  // no area
+        ];
+        for chain in wrong {
+            assert!(!is_first_chain(&state, 2, 9, chain), "{chain:?}");
+        }
+        assert!(!is_first_chain(&state, 0, 9, &[7, 0]) && !is_first_chain(&state, 0, 9, &[0]));
+        for place in 0..4 {
+            for other in 0..=255 {
+                let mut chain = [7, 1, 30, 2];
+                chain[place] = other;
+                assert_eq!(is_first_chain(&state, 2, 9, &chain), chain == [7, 1, 30, 2]);
+            }
+        }
+    }
+}
+
+/// The judge of counts: another number at any place is wrong, and so is another length, and the counts that a ring
+/// would give itself.
+#[test]
+fn point_5_judge_of_counts() {
+    for state in along(&[&[3, 1, 5], &[3, 4, 5, 6, 31], &[31, 6, 7, 31]]) {
+        let right = counts(&[(3, 0), (1, 1), (4, 1), (5, 2), (6, 3), (31, 4), (7, 4)]);
+        assert!(are_least_counts(&state, 9, &right));
+        for place in 0..32 {
+            for other in 0..=255 {
+                let mut wrong = right;
+                wrong[place] = other;
+                assert_eq!(are_least_counts(&state, 9, &wrong), wrong == right);
+            }
+        }
+        let longer = [&right[..], &[255]].concat();
+        for bytes in [&right[..31], &longer, &[], &right[..1]] {
+            assert!(!are_least_counts(&state, 9, bytes));
+        }
+    }
+    // areas 1 and 2 lie in each other and would import, but nothing leads to them
+    let mut ring = from_f(&[[1, 0, 1, 0], [1, 0, 2, 0], [7, 0, 0, 9], [5, 0, 1, 2], [5, 0, 2, 1]]);
+    ring.imports.extend([(9, 1), (9, 2)]);
+    assert!(are_least_counts(&ring, 9, &counts(&[(0, 0)])));
+    for (of_1, of_2) in (0..=8).flat_map(|of_1| (0..=8).map(move |of_2| (of_1, of_2))) {
+        assert!(!are_least_counts(&ring, 9, &counts(&[(0, 0), (1, of_1), (2, of_2)])));
+    }
+}
+
+/// The judge of a lost pair: of all pairs only the first that is lost.
+#[test]
+fn point_5_judge_of_a_lost_pair() {
+    let mut list: Vec<[u8; 4]> = [1, 5, 20].map(|area| [1, 0, area, 0]).to_vec();
+    list.extend([
+        [7, 0, 0, 3],
+        [7, 0, 0, 9],
+        [5, 0, 20, 0],
+        [5, 0, 1, 20],
+        [5, 0, 5, 20],
+        [11, 0, 0, 3],
+    ]);
+    list.extend([[9, 0, 20, 9], [9, 0, 20, 3], [9, 0, 1, 9], [9, 0, 5, 3], [11, 0, 1, 9]]);
+    let state = from_f(&list);
+    for (removal, first) in [
+        ([6, 0, 20, 0], import(3, 5)),
+        ([10, 0, 20, 9], import(9, 1)),
+        ([8, 0, 0, 9], import(9, 1)),
+        ([8, 0, 0, 3], import(3, 5)),
+    ] {
+        for (object, area) in (0..=64).flat_map(|object| (0..=32).map(move |area| (object, area))) {
+            if [0, 3, 9, 64].contains(&object) {
+                assert_eq!(is_first_lost(&state, removal, &import(object, area)), first == import(object, area));
+                assert!(!is_first_lost(&state, removal, &export(object, area)));
+            }
+        }
+    }
+}
+
+/// Every chain of just so many steps, shortest or not, by the definition of a step alone; nothing is left out.
+fn every_chain(state: &State, object: u8, steps: u8) -> BTreeSet<Vec<u8>> {
+    if steps == 0 {
+        let of_object = state.definitions.iter().filter(|pair| pair.0 == object);
+        return of_object.map(|&(_, definer)| vec![definer]).collect();
+    }
+    let mut longer = BTreeSet::new();
+    for chain in every_chain(state, object, steps - 1) {
+        let s = chain[chain.len() - 1];
+        for &r in &state.areas {
+            let export = state.exports.contains(&(object, s)) && state.structure.contains(&(s, r));
+            let import = state.imports.contains(&(object, r)) && state.structure.contains(&(r, s));
+            if export || import {
+                longer.insert([&chain[..], &[r]].concat());
+            }
+        }
+    }
+    longer
+}
+
+/// Asserts that what is explained of the object at the listed area is what `every_chain` and `least_chains` make of it,
+/// and that the judges find nothing else true. Hands back how many chains are shortest.
+fn explained_by_every_chain(state: &State, area: u8, object: u8) -> u64 {
+    let chains = least_chains(state, object);
+    let steps = chains.get(&area).copied().filter(|&steps| steps <= 8);
+    let listed: BTreeSet<Vec<u8>> = shortest_chains(state, area, object).into_iter().collect();
+    let count = count_shortest_chains(state, area, object);
+    assert_eq!(
+        (listed.len() as u64, shortest_chains(state, area, object).len() as u64),
+        (count, count)
+    );
+    let (answer, bytes) = explained(state, area.into(), object.into(), &[77; 32]);
+    let Some(steps) = steps else {
+        let count_of = |area| chains.get(&area).copied().filter(|&steps| steps <= 8).unwrap_or(255);
+        assert_eq!(
+            (answer, &bytes),
+            (Explanation::Counts(32), &(0..32).map(count_of).collect::<Vec<u8>>())
+        );
+        assert!(are_least_counts(state, object, &bytes));
+        assert_eq!(count, 0);
+        return 0;
+    };
+    let mut all = every_chain(state, object, steps);
+    all.retain(|chain| chain.ends_with(&[area]));
+    assert_eq!(listed, all);
+    let first = all.first().expect("a chain");
+    assert_eq!((answer, &bytes[..first.len()]), (Explanation::Chain(first.len()), &first[..]));
+    assert!(bytes[first.len()..].iter().all(|&byte| byte == 77));
+    assert!(all
+        .iter()
+        .all(|chain| is_first_chain(state, area, object, chain) == (chain == first)));
+    count
+}
+
+/// Document 02, point 5, at each small state.
+#[test]
+fn point_5_chains_and_counts_at_every_small_state() {
+    let mut seen: BTreeMap<u64, u32> = BTreeMap::new();
+    for state in small_states().iter().filter(|state| !state.objects.is_empty()) {
+        for &area in &state.areas {
+            *seen.entry(explained_by_every_chain(state, area, 0)).or_default() += 1;
+        }
+    }
+    // by hand, as in `small_states_are_1620`: 24 states with the object have one area. 9 * 2 * 4 * 20 have two, d and
+    // r, and r has access in 14 of the 20: with (d, r) alone in 4, with (r, d) alone in 2 * 2, with both in 4 + 2
+    assert_eq!(seen, BTreeMap::from([(0, 72 * 6), (1, 24 + 72 * 20 + 72 * 14)]));
+}
+
+/// Document 02, point 5, over states in disorder: six areas, two objects, adds and removes of pairs.
+#[test]
+fn point_5_chains_and_counts_in_disorder() {
+    let mut state = from_f(&[
+        [1, 0, 1, 0],
+        [1, 0, 2, 0],
+        [1, 0, 3, 0],
+        [1, 0, 4, 0],
+        [1, 0, 5, 0],
+        [7, 0, 2, 0],
+        [7, 0, 4, 1],
+    ]);
+    let mut seen: BTreeMap<u64, u32> = BTreeMap::new();
+    for [kind, a, b, object] in disorder().take(300) {
+        let code = [5, 5, 9, 9, 11, 11, 6, 10, 12][usize::from(kind) % 9];
+        state = run(&state, &[[code, 0, a % 6, if code < 7 { b % 6 } else { b % 2 }]]);
+        for area in 0..6 {
+            *seen.entry(explained_by_every_chain(&state, area, object % 2)).or_default() += 1;
+        }
+    }
+    assert!((0..=3).all(|count| seen.contains_key(&count)), "{seen:?}");
+}
+
+/// The layers as a state of user 0: object 9 is defined in the one area of the first layer, each area lies in each of
+/// the layer before it, and all of the layers behind the first import the object.
+fn layered(layers: &[&[u8]]) -> State {
+    let areas: BTreeSet<u8> = layers.concat().into_iter().chain([0]).collect();
+    let behind = layers[1..].concat();
+    let pairs_of = |two: &[&[u8]]| two[1].iter().flat_map(|&r| two[0].iter().map(move |&s| (r, s))).collect::<Vec<_>>();
+    State {
+        owners: areas.iter().map(|&area| (0, area)).collect(),
+        areas,
+        objects: BTreeSet::from([9]),
+        definitions: BTreeSet::from([(9, layers[0][0])]),
+        structure: layers.windows(2).flat_map(pairs_of).collect(),
+        imports: behind.into_iter().map(|area| (9, area)).collect(),
+        ..State::founding()
+    }
+}
+
+/// As many equal shortest chains as 32 areas and 8 steps allow: 4 * 4 * 4 * 4 * 4 * 5 * 5 = 25,600 to one area.
+#[test]
+fn point_5_most_shortest_chains() {
+    let (front, back): ([&[u8]; 6], [&[u8]; 3]) = (
+        [
+            &[0],
+            &[4, 1, 3, 2],
+            &[30, 29, 28, 27],
+            &[5, 6, 7, 8],
+            &[9, 26, 10, 25],
+            &[11, 12, 23, 24],
+        ],
+        [&[13, 22, 14, 21, 15], &[20, 16, 19, 17, 18], &[31]],
+    );
+    let state = layered(&[&front[..], &back].concat());
+    assert!(state.is_sound());
+    has_chain(&state, &[0, 1, 27, 5, 9, 11, 13, 16, 31]);
+    assert_eq!(count_shortest_chains(&state, 31, 9), 25_600);
+    assert_eq!(shortest_chains(&state, 31, 9).len(), 25_600);
+    // area 31 lies in area 20 only, that in 22 only, that in 23 and 24 only, and 23 in 26 only
+    let mut narrow = state;
+    narrow.structure.retain(|&(r, s)| r != 31 || s == 20);
+    narrow.structure.retain(|&(r, s)| r != 20 || s == 22);
+    narrow.structure.retain(|&(r, s)| r != 22 || s == 23 || s == 24);
+    narrow.structure.retain(|&(r, s)| r != 23 || s == 26);
+    assert!(narrow.is_sound());
+    has_chain(&narrow, &[0, 1, 27, 5, 9, 24, 22, 20, 31]);
+    assert_eq!(count_shortest_chains(&narrow, 31, 9), 4 * 4 * 4 * (4 + 1));
+    assert!(!is_first_chain(&narrow, 31, 9, &[0, 1, 27, 5, 26, 23, 22, 20, 31]));
+}
+
+/// The lowest shortest chain of object 9 to each area, by a third way: of the chains to an area only the lowest is
+/// kept. It is enough, for two chains of equal length to the same area compare as before when both go on alike.
+fn lowest_kept(state: &State) -> BTreeMap<u8, Vec<u8>> {
+    let definers = state.definitions.iter().filter(|pair| pair.0 == 9);
+    let mut layer: BTreeMap<u8, Vec<u8>> = definers.map(|&(_, definer)| (definer, vec![definer])).collect();
+    let mut kept = BTreeMap::new();
+    for _ in 0..=8 {
+        let mut next: BTreeMap<u8, Vec<u8>> = BTreeMap::new();
+        kept.extend(layer.clone());
+        for (&s, chain) in &layer {
+            let is_step = |r: u8| {
+                (state.exports.contains(&(9, s)) && state.structure.contains(&(s, r)))
+                    || (state.imports.contains(&(9, r)) && state.structure.contains(&(r, s)))
+            };
+            for r in (0..32).filter(|&r| is_step(r) && !kept.contains_key(&r)) {
+                let longer = [&chain[..], &[r]].concat();
+                let lowest = next.get(&r).map_or(&longer, |other| other.min(&longer)).clone();
+                next.insert(r, lowest);
+            }
+        }
+        layer = next;
+    }
+    kept
+}
+
+/// 32 areas in a fixed disorder, in layers of 1 to 7, with pairs between neighbouring layers in either direction, pairs
+/// within layers, and entries at most 8 steps off.
+fn layered_in_disorder(bytes: &mut impl Iterator<Item = [u8; 4]>) -> State {
+    let mut areas: Vec<([u8; 4], u8)> = bytes.by_ref().take(32).zip(0..).collect();
+    areas.sort();
+    let mut rest: Vec<u8> = areas.into_iter().map(|(_, area)| area).collect();
+    let mut layers: Vec<Vec<u8>> = vec![vec![rest.pop().expect("a definer")]];
+    while !rest.is_empty() {
+        let width = 1 + usize::from(bytes.next().expect("endless")[0] % 7);
+        layers.push(rest.split_off(rest.len().saturating_sub(width)));
+    }
+    let mut state = layered(&layers.iter().map(|layer| &layer[..]).collect::<Vec<&[u8]>>());
+    state
+        .imports
+        .retain(|&(_, area)| layers.iter().take(9).any(|layer| layer.contains(&area)));
+    state.exports = state.imports.iter().copied().chain(state.definitions.iter().copied()).collect();
+    for (r, s) in state.structure.clone() {
+        let [turned, cut, among, _] = bytes.next().expect("endless");
+        if turned % 2 == 0 {
+            state.structure.remove(&(r, s));
+            state.structure.insert((s, r));
+        }
+        if cut % 4 == 0 {
+            state.structure.remove(&(r, s));
+            state.structure.remove(&(s, r));
+        }
+        if among % 8 == 0 {
+            state.structure.insert((r, r));
+        }
+    }
+    let kept = lowest_kept(&state);
+    state.imports.retain(|(_, area)| kept.contains_key(area));
+    state.exports.retain(|(_, area)| kept.contains_key(area));
+    state
+}
+
+/// Document 02, point 5, where there are many shortest chains: what is explained is what `lowest_kept` has.
+#[test]
+fn point_5_many_shortest_chains_in_disorder() {
+    let mut bytes = disorder();
+    let (mut most, mut lengths) = (0, BTreeSet::new());
+    for _ in 0..25 {
+        let state = layered_in_disorder(&mut bytes);
+        assert!(state.is_sound());
+        let kept = lowest_kept(&state);
+        let by_hand = (0..32).map(|area| kept.get(&area).map_or(255, |chain| chain.len() as u8 - 1));
+        let counts: Vec<u8> = by_hand.collect();
+        assert!(are_least_counts(&state, 9, &counts));
+        for area in 0..32 {
+            let mut buffer = [77; 32];
+            let answer = explain(&state, area.into(), 9, &mut buffer);
+            most = most.max(count_shortest_chains(&state, area, 9));
+            let Some(chain) = kept.get(&area) else {
+                assert_eq!((answer, &buffer[..]), (Explanation::Counts(32), &counts[..]));
+                continue;
+            };
+            assert_eq!((answer, &buffer[..chain.len()]), (Explanation::Chain(chain.len()), &chain[..]));
+            assert!(is_first_chain(&state, area, 9, chain));
+            lengths.insert(chain.len());
+        }
+    }
+    assert_eq!(lengths, (1..=9).collect());
+    assert!(most > 500, "{most}");
+}
+
+/// The pairs that are lost in the state that the removal would give, in the order of point 5, by `least_chains`.
+fn lost_by_least_chains(state: &State, [code, _, a, b]: [u8; 4]) -> Vec<Lost> {
+    let mut next = state.clone();
+    let removed = match code {
+        6 => next.structure.remove(&(a, b)),
+        8 => next.definitions.remove(&(b, a)) && next.objects.remove(&b),
+        10 => next.imports.remove(&(b, a)),
+        _ => next.exports.remove(&(b, a)),
+    };
+    assert!(removed);
+    let mut lost = Vec::new();
+    for (pairs, relation) in [(&next.imports, import as fn(u8, u8) -> Lost), (&next.exports, export)] {
+        for object in 0..64 {
+            for area in (0..32).filter(|&area| pairs.contains(&(object, area))) {
+                if least_chain(&next, area, object).is_none_or(|steps| steps > 8) {
+                    lost.push(relation(object, area));
+                }
+            }
+        }
+    }
+    lost
+}
+
+/// Asserts the reason of the instruction by `lost_by_least_chains`. Hands back what is named, and how many are lost.
+fn reason_by_least_chains(state: &State, instruction: [u8; 4]) -> (u8, Option<Entry>, usize) {
+    let number = step(state, instruction).err().unwrap_or(0);
+    if number != 11 {
+        assert_eq!(explain_step(state, instruction), StepReason { number, lost: None });
+        assert_eq!(lost_pairs(state, instruction).len(), 0);
+        return (number, None, 0);
+    }
+    let lost = lost_by_least_chains(state, instruction);
+    loses(state, instruction, &lost);
+    (number, Some(lost[0].entry), lost.len())
+}
+
+/// Document 02, point 5, of each instruction at small states.
+#[test]
+fn point_5_step_reasons_at_small_states() {
+    let instructions = small_instructions();
+    let mut seen = BTreeSet::new();
+    for state in small_states().iter().step_by(11) {
+        seen.extend(instructions.iter().map(|&instruction| reason_by_least_chains(state, instruction)));
+    }
+    // two pairs and the definer's export are the most that a removal can lose: the definition's
+    let (imports, exports) = ((1..=3).map(|count| (11, Some(Entry::Import), count)), (11, Some(Entry::Export), 1));
+    assert!(seen.is_superset(&imports.chain([exports]).collect()), "{seen:?}");
+    assert!(seen.iter().all(|&(_, _, count)| count <= 3));
+}
+
+/// Document 02, point 5, over lists in disorder, on a row at whose end areas are 7, 8 and 9 steps off, and on four
+/// areas of three users.
+#[test]
+fn point_5_step_reasons_in_disorder() {
+    type Pick = fn(&State, [u8; 4]) -> [u8; 4];
+    let of_all: Pick = |_, four| of_another(u8::MAX, four);
+    let starts: [(&[[u8; 4]], Pick); 2] = [(&lent_row(), of_all), (FOUR_AREAS, often_own_import)];
+    let mut bytes = disorder();
+    let mut seen: BTreeMap<(u8, Option<Entry>, usize), u32> = BTreeMap::new();
+    for (list, pick) in starts.repeat(10) {
+        let mut state = from_f(list);
+        for four in bytes.by_ref().take(100) {
+            let instruction = pick(&state, four);
+            *seen.entry(reason_by_least_chains(&state, instruction)).or_default() += 1;
+            state = run(&state, &[instruction]);
+        }
+    }
+    let numbers: BTreeSet<u8> = seen.keys().map(|&(number, _, _)| number).collect();
+    assert!(numbers.is_superset(&BTreeSet::from([0, 3, 4, 5, 6, 7, 10, 11, 15])), "{numbers:?}");
+}
+
+/// Document 02, point 5, of every removal of what is there, at states in disorder: six areas of user 0, three objects.
+#[test]
+fn point_5_every_removal_in_disorder() {
+    let mut list: Vec<[u8; 4]> = (1..=5).map(|area| [1, 0, area, 0]).collect();
+    list.extend([[7, 0, 2, 0], [7, 0, 4, 1], [7, 0, 0, 63]]);
+    let mut state = from_f(&list);
+    let mut seen: BTreeMap<(u8, Option<Entry>, usize), u32> = BTreeMap::new();
+    for (round, [kind, a, b, _]) in disorder().take(2400).enumerate() {
+        let code = [5, 5, 9, 9, 11, 11, 6, 6, 10, 12][usize::from(kind) % 10];
+        let object = [0, 1, 63][usize::from(b) % 3];
+        state = run(&state, &[[code, 0, a % 6, if code < 7 { b % 6 } else { object }]]);
+        if round % 80 == 0 {
+            let structure = state.structure.iter().map(|&(inner, outer)| [6, 0, inner, outer]);
+            let definitions = state.definitions.iter().map(|&(object, area)| [8, 0, area, object]);
+            let imports = state.imports.iter().map(|&(object, area)| [10, 0, area, object]);
+            let exports = state.exports.iter().map(|&(object, area)| [12, 0, area, object]);
+            for removal in structure.chain(definitions).chain(imports).chain(exports) {
+                *seen.entry(reason_by_least_chains(&state, removal)).or_default() += 1;
+            }
+        }
+    }
+    for (entry, most) in [(Entry::Import, 6), (Entry::Export, 3)] {
+        let all = (1..=most).all(|count| seen.contains_key(&(11, Some(entry), count)));
+        assert!(all, "{seen:?}");
+    }
 }
 
 // The small states

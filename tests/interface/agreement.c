@@ -3,15 +3,6 @@
 
 #include <string.h>
 
-static uint32_t seed = 1;
-
-/* A number below the limit. */
-static unsigned draw(unsigned limit)
-{
-    seed = seed * 1664525 + 1013904223;
-    return (seed >> 16) % limit;
-}
-
 /* Mostly one of the few numbers that the sites below have. */
 static uint8_t draw_number(void)
 {

@@ -29,6 +29,14 @@ unsigned long checks(void)
     return count;
 }
 
+unsigned draw(unsigned limit)
+{
+    static uint32_t seed = 1;
+
+    seed = seed * 1664525 + 1013904223;
+    return (seed >> 16) % limit;
+}
+
 void found(struct guarded *site)
 {
     memset(site, 0xa5, sizeof *site);
@@ -54,27 +62,47 @@ void with_other_lengths(void (*refuse)(uint8_t *state, size_t state_len))
     }
 }
 
+/* Says which instruction it was, for a check that fails. */
+static void describe(const uint8_t instruction[4])
+{
+    fprintf(stderr, "%d %d %d %d:\n", instruction[0], instruction[1], instruction[2], instruction[3]);
+}
+
+uint32_t reason(const struct guarded *site, const uint8_t instruction[4], uint8_t refusal)
+{
+    const struct guarded given = *site;
+    uint32_t answer = panelrights_explain_step(site->state, sizeof site->state, instruction[0], instruction[1],
+                                               instruction[2], instruction[3]);
+
+    if (PANELRIGHTS_REASON_NUMBER(answer) != refusal)
+        describe(instruction);
+    CHECK_NUMBER(PANELRIGHTS_REASON_NUMBER(answer), refusal);
+    if (refusal == PANELRIGHTS_WOULD_LOSE_ACCESS) {
+        CHECK(PANELRIGHTS_REASON_LOST(answer) == PANELRIGHTS_LOST_IMPORT ||
+              PANELRIGHTS_REASON_LOST(answer) == PANELRIGHTS_LOST_EXPORT);
+    } else {
+        CHECK_NUMBER(answer, refusal);
+    }
+    CHECK(memcmp(site, &given, sizeof given) == 0);
+    return answer;
+}
+
 void step(struct guarded *site, const uint8_t instruction[4], uint8_t refusal)
 {
     struct guarded given = *site;
-    uint8_t answer = panelrights_step(site->state, sizeof site->state, instruction[0], instruction[1],
-                                      instruction[2], instruction[3]);
+    uint8_t answer;
 
+    reason(site, instruction, refusal);
+    answer = panelrights_step(site->state, sizeof site->state, instruction[0], instruction[1], instruction[2],
+                              instruction[3]);
     if (answer != refusal)
-        fprintf(stderr, "%d %d %d %d:\n", instruction[0], instruction[1], instruction[2], instruction[3]);
+        describe(instruction);
     CHECK_NUMBER(answer, refusal);
     if (answer != PANELRIGHTS_OK)
         CHECK(memcmp(site->state, given.state, sizeof given.state) == 0);
     CHECK(memcmp(site->before, given.before, GUARD) == 0);
     CHECK(memcmp(site->behind, given.behind, GUARD) == 0);
 }
-
-/* Room for the bytes of a recipe, with others before and behind them. */
-struct lent {
-    uint8_t before[GUARD];
-    uint8_t bytes[100];
-    uint8_t behind[GUARD];
-};
 
 uint16_t obey_bytes(struct guarded *site, const uint8_t *bytes, size_t length, const struct caller *caller)
 {

@@ -20,6 +20,24 @@ static uint8_t *room(void)
 
 static const uint8_t list_area[PANELRIGHTS_RECIPE_ENTRY_BYTES] = {PANELRIGHTS_LIST_AREA, 0, 31, 0, 0};
 
+/* Area 31 defines object 63, and area 0 has no access to it. Once area 31 exports it, this is what is lost.
+ */
+static void explain_record(uint8_t *state)
+{
+    uint8_t buffer[PANELRIGHTS_EXPLAIN_BYTES];
+
+    CHECK_NUMBER(panelrights_explain(state, PANELRIGHTS_STATE_BYTES, 31, 63, buffer, sizeof buffer), 1);
+    CHECK_NUMBER(buffer[0], 31);
+    CHECK_NUMBER(panelrights_explain(state, PANELRIGHTS_STATE_BYTES, 0, 63, buffer, sizeof buffer), 512 + 32);
+    CHECK(buffer[0] == 255 && buffer[30] == 255 && buffer[31] == 0);
+    CHECK_NUMBER(panelrights_explain_step(state, PANELRIGHTS_STATE_BYTES, PANELRIGHTS_ADD_IMPORT, 0, 31, 63),
+                 PANELRIGHTS_OWN_IMPORT);
+    SET(state, EXPORT_AT(63, 31));
+    CHECK_NUMBER(
+        panelrights_explain_step(state, PANELRIGHTS_STATE_BYTES, PANELRIGHTS_REMOVE_DEFINITION, 0, 31, 63),
+        11 + 256 * 2 + 65536 * 63 + 16777216 * 31);
+}
+
 static void use_record(uint8_t *state)
 {
     CHECK_NUMBER(panelrights_founding(state, PANELRIGHTS_STATE_BYTES), PANELRIGHTS_OK);
@@ -28,6 +46,7 @@ static void use_record(uint8_t *state)
     CHECK_NUMBER(panelrights_step(state, PANELRIGHTS_STATE_BYTES, PANELRIGHTS_DEFINE, 0, 31, 63),
                  PANELRIGHTS_OK);
     CHECK_NUMBER(panelrights_access(state, PANELRIGHTS_STATE_BYTES, 31, 63), 0);
+    explain_record(state);
     CHECK_NUMBER(panelrights_step(state, PANELRIGHTS_STATE_BYTES, PANELRIGHTS_ADD_IMPORT, 0, 31, 63),
                  PANELRIGHTS_OWN_IMPORT);
     SET(state, IMPORT_AT(63, 31));
@@ -40,12 +59,20 @@ static void use_record(uint8_t *state)
 /* A record of another length is not looked at beyond it. */
 static void use_other_length(uint8_t *state, size_t length)
 {
+    uint8_t buffer[PANELRIGHTS_EXPLAIN_BYTES];
+
     CHECK_NUMBER(panelrights_founding(state, length), PANELRIGHTS_BUFFER_LENGTH);
     CHECK_NUMBER(panelrights_step(state, length, PANELRIGHTS_LIST_AREA, 0, 31, 0), PANELRIGHTS_UNSOUND_STATE);
     CHECK_NUMBER(panelrights_recipe(state, length, list_area, sizeof list_area, 0, 0, 0, 0, 0),
                  PANELRIGHTS_UNSOUND_STATE);
     CHECK_NUMBER(panelrights_access(state, length, 0, 0),
                  PANELRIGHTS_ACCESS_REFUSED + PANELRIGHTS_UNSOUND_STATE);
+    CHECK_NUMBER(panelrights_explain(state, length, 0, 0, buffer, sizeof buffer),
+                 PANELRIGHTS_EXPLAIN_REFUSED + PANELRIGHTS_UNSOUND_STATE);
+    CHECK_NUMBER(panelrights_explain(state, length, 0, 0, NULL, 0),
+                 PANELRIGHTS_EXPLAIN_REFUSED + PANELRIGHTS_BUFFER_LENGTH);
+    CHECK_NUMBER(panelrights_explain_step(state, length, PANELRIGHTS_LIST_AREA, 0, 31, 0),
+                 PANELRIGHTS_UNSOUND_STATE);
     CHECK_NUMBER(panelrights_write_file(state, length, NULL, 0, NULL, 0),
                  PANELRIGHTS_WRITE_REFUSED + PANELRIGHTS_UNSOUND_STATE);
 }
@@ -78,6 +105,37 @@ static void use_long_recipe(uint8_t *state)
     CHECK_NUMBER(panelrights_recipe(state, PANELRIGHTS_STATE_BYTES, zeros, length, 0, 0, 0, 0, 0),
                  PANELRIGHTS_RECIPE_FORM);
     CHECK(munmap(zeros, length) == 0);
+}
+
+/* The good file's state with area 3, which lacks access: a buffer of so many bytes, for a chain and for
+ * counts. */
+static void use_explaining(uint8_t *state, uint8_t *buffer, size_t length)
+{
+    static const uint8_t chain[] = {1, 2, 0}, counts[] = {2, 0, 1, 255};
+    const int fits = length >= PANELRIGHTS_EXPLAIN_BYTES;
+
+    CHECK_NUMBER(panelrights_read_file(good_file, sizeof good_file, state, PANELRIGHTS_STATE_BYTES),
+                 PANELRIGHTS_OK);
+    SET(state, AREA_AT(3), OWNER_AT(0, 3));
+    CHECK_NUMBER(panelrights_explain(state, PANELRIGHTS_STATE_BYTES, 0, 9, buffer, length),
+                 fits ? 3 : 256 + 31);
+    CHECK(!fits || memcmp(buffer, chain, sizeof chain) == 0);
+    CHECK_NUMBER(panelrights_explain(state, PANELRIGHTS_STATE_BYTES, 3, 9, buffer, length),
+                 fits ? 512 + 32 : 256 + 31);
+    CHECK(!fits || (memcmp(buffer, counts, sizeof counts) == 0 && buffer[31] == 255));
+}
+
+/* Record and buffer where memory ends, and where it begins. */
+static void use_explainings(void)
+{
+    uint8_t *state = room(), *buffer = room();
+    size_t length;
+
+    for (length = 0; length <= 70; length++)
+        use_explaining(state + ROOM - PANELRIGHTS_STATE_BYTES, buffer + ROOM - length, length);
+    use_explaining(state, buffer, PANELRIGHTS_EXPLAIN_BYTES);
+    CHECK(munmap(state - ROOM, 3 * (size_t)ROOM) == 0);
+    CHECK(munmap(buffer - ROOM, 3 * (size_t)ROOM) == 0);
 }
 
 /*
@@ -141,8 +199,8 @@ static void use_writings(void)
 }
 
 /* Zeros, so many that the length would be 0, or a record's, in 32 bits: no label block, no record, and room
- * enough for a file. */
-static void use_long_writing(uint8_t *state)
+ * enough for a file or an explanation. */
+static void use_long_buffers(uint8_t *state)
 {
     const size_t length = (size_t)1 << 32, more = length + PANELRIGHTS_STATE_BYTES;
     uint8_t *zeros =
@@ -158,6 +216,11 @@ static void use_long_writing(uint8_t *state)
     CHECK_NUMBER(panelrights_founding(zeros, PANELRIGHTS_STATE_BYTES), PANELRIGHTS_OK);
     CHECK_NUMBER(panelrights_write_file(zeros, more, NULL, 0, NULL, 0),
                  PANELRIGHTS_WRITE_REFUSED + PANELRIGHTS_UNSOUND_STATE);
+    CHECK_NUMBER(panelrights_explain(zeros, more, 0, 0, state, PANELRIGHTS_EXPLAIN_BYTES),
+                 PANELRIGHTS_EXPLAIN_REFUSED + PANELRIGHTS_UNSOUND_STATE);
+    CHECK_NUMBER(panelrights_explain_step(zeros, more, PANELRIGHTS_LIST_AREA, 0, 31, 0),
+                 PANELRIGHTS_UNSOUND_STATE);
+    use_explaining(state, zeros, length);
     CHECK(munmap(zeros, more) == 0);
 }
 
@@ -178,7 +241,8 @@ void test_edges(void)
     use_file(begin, sizeof good_file);
     for (length = 0; length <= sizeof good_file; length++)
         use_file(end - length, length);
+    use_explainings();
     use_writings();
-    use_long_writing(begin);
+    use_long_buffers(begin);
     CHECK(munmap(begin - ROOM, 3 * (size_t)ROOM) == 0);
 }

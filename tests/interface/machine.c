@@ -4,30 +4,19 @@
 
 #include <string.h>
 
-struct line {
-    uint8_t instruction[4];
-    uint8_t answer;
-};
-
-static const struct line session[12] = {
+const struct line session[SESSION] = {
     {{1, 0, 1, 0}, 0},   {{1, 0, 2, 0}, 0},  {{5, 0, 1, 2}, 0},  {{5, 0, 0, 2}, 0},
     {{7, 0, 1, 9}, 0},   {{9, 0, 0, 9}, 10}, {{11, 0, 1, 9}, 0}, {{9, 0, 0, 9}, 0},
     {{12, 0, 1, 9}, 11}, {{3, 0, 0, 4}, 0},  {{10, 4, 0, 9}, 0}, {{6, 4, 0, 2}, 0},
 };
 
-/* The founding state after the first lines of the session. */
-static void run_session(struct guarded *site, size_t lines)
+void run_session(struct guarded *site, size_t lines)
 {
     size_t i;
 
     found(site);
     for (i = 0; i < lines; i++)
         step(site, session[i].instruction, session[i].answer);
-}
-
-static uint16_t ask(const struct guarded *site, uint32_t area, uint32_t object)
-{
-    return panelrights_access(site->state, sizeof site->state, area, object);
 }
 
 /* `state 2 3 1 4 1 0 1`, each number and pair in its place. */
@@ -195,8 +184,7 @@ static void test_access(void)
     ask_edges(&site, 0);
 }
 
-/* Areas 0 to 9, each in the next. Areas 0 to 8 export object 9, which area 0 defines. */
-static void make_row(struct guarded *site)
+void make_row(struct guarded *site)
 {
     static const uint8_t define[4] = {PANELRIGHTS_DEFINE, 0, 0, 9};
     uint8_t area;
@@ -291,12 +279,7 @@ static void test_own_imports(void)
     ask_edges(&site, 1);
 }
 
-/*
- * Areas 0 to 15, and area 0 lies in each of the others. It defines objects 0 to 31 and exports them, so the
- * others have access. Area 1 imports object 0, and area 2 exports it. Area 1 defines object 40, which nobody
- * exports. User 0 owns all areas, user 4 areas 1 and 2.
- */
-static void make_star(struct guarded *site)
+void make_star(struct guarded *site)
 {
     static const uint8_t last[5][4] = {
         {3, 0, 1, 4}, {3, 0, 2, 4}, {9, 0, 1, 0}, {11, 0, 2, 0}, {7, 0, 1, 40},

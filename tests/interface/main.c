@@ -21,6 +21,8 @@ int main(void)
     test_recipes();
     test_forms();
     test_agreement();
+    test_explaining();
+    test_reasons();
     test_records();
     test_reading();
     test_files();

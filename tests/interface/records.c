@@ -3,16 +3,26 @@
 
 #include <string.h>
 
-/* A record of another length, or of a state that is not sound: 12 comes first, whatever is asked. */
+/* A record of another length, or of a state that is not sound: 12 comes first, whatever is asked; but 31 of a
+ * buffer for an explanation comes before it. */
 static void refuse_record(uint8_t *state, size_t length)
 {
     static const uint8_t partial[1] = {0};
-    static uint8_t file[PANELRIGHTS_FILE_MOST];
+    static uint8_t file[PANELRIGHTS_FILE_MOST], buffer[PANELRIGHTS_EXPLAIN_BYTES];
 
     CHECK_NUMBER(panelrights_step(state, length, PANELRIGHTS_LIST_AREA, 0, 1, 0), PANELRIGHTS_UNSOUND_STATE);
     CHECK_NUMBER(panelrights_step(state, length, 0, 255, 255, 255), PANELRIGHTS_UNSOUND_STATE);
+    CHECK_NUMBER(panelrights_explain_step(state, length, PANELRIGHTS_LIST_AREA, 0, 1, 0),
+                 PANELRIGHTS_UNSOUND_STATE);
+    CHECK_NUMBER(panelrights_explain_step(state, length, 0, 255, 255, 255), PANELRIGHTS_UNSOUND_STATE);
     CHECK_NUMBER(panelrights_access(state, length, 0, 0),
                  PANELRIGHTS_ACCESS_REFUSED + PANELRIGHTS_UNSOUND_STATE);
+    CHECK_NUMBER(panelrights_explain(state, length, 0, 0, buffer, sizeof buffer),
+                 PANELRIGHTS_EXPLAIN_REFUSED + PANELRIGHTS_UNSOUND_STATE);
+    CHECK_NUMBER(panelrights_explain(state, length, 256, 256, buffer, sizeof buffer),
+                 PANELRIGHTS_EXPLAIN_REFUSED + PANELRIGHTS_UNSOUND_STATE);
+    CHECK_NUMBER(panelrights_explain(state, length, 0, 0, buffer, sizeof buffer - 1),
+                 PANELRIGHTS_EXPLAIN_REFUSED + PANELRIGHTS_BUFFER_LENGTH);
     CHECK_NUMBER(panelrights_write_file(state, length, NULL, 0, file, sizeof file),
                  PANELRIGHTS_WRITE_REFUSED + PANELRIGHTS_UNSOUND_STATE);
     CHECK_NUMBER(panelrights_write_file(state, length, partial, sizeof partial, NULL, 0),

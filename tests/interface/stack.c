@@ -15,6 +15,9 @@ static uint8_t stack[STACK] __attribute__((aligned(4096)));
 static uint8_t state[PANELRIGHTS_STATE_BYTES];
 static int right = 1;
 
+/* Object 9 goes along ten areas, by exports, and the last but one imports it too. */
+static struct guarded row;
+
 static void call_founding(void)
 {
     right &= panelrights_founding(state, sizeof state) == PANELRIGHTS_OK;
@@ -96,6 +99,32 @@ static void call_write_file(void)
     right &= panelrights_write_file(state, sizeof state - 1, labels, 64, file, sizeof file) == 65536 + 12;
 }
 
+/* In the row: a chain as long as one can be, counts, and each refusal. */
+static void call_explain(void)
+{
+    static uint8_t buffer[PANELRIGHTS_EXPLAIN_BYTES];
+
+    right &= panelrights_explain(row.state, sizeof row.state, 8, 9, buffer, sizeof buffer) == 9;
+    right &= panelrights_explain(row.state, sizeof row.state, 9, 9, buffer, sizeof buffer) == 512 + 32;
+    right &= panelrights_explain(row.state, sizeof row.state, 9, 9, buffer, sizeof buffer - 1) == 256 + 31;
+    right &= panelrights_explain(row.state, sizeof row.state - 1, 9, 9, buffer, sizeof buffer) == 256 + 12;
+    right &= panelrights_explain(row.state, sizeof row.state, 32, 9, buffer, sizeof buffer) == 256 + 2;
+    right &= panelrights_explain(row.state, sizeof row.state, 10, 9, buffer, sizeof buffer) == 256 + 4;
+}
+
+/* In the row: the import at its end, which is lost wherever it is cut; no pair; and other refusals. */
+static void call_explain_step(void)
+{
+    const uint32_t lost = 11 + 256 * PANELRIGHTS_LOST_IMPORT + 65536 * 9 + 16777216 * 8;
+
+    right &= panelrights_explain_step(row.state, sizeof row.state, 6, 0, 0, 1) == lost;
+    right &= panelrights_explain_step(row.state, sizeof row.state, 8, 0, 0, 9) == lost;
+    right &= panelrights_explain_step(row.state, sizeof row.state, 12, 0, 7, 9) == lost;
+    right &= panelrights_explain_step(row.state, sizeof row.state, 10, 0, 8, 9) == 0;
+    right &= panelrights_explain_step(row.state, sizeof row.state, 9, 0, 9, 9) == PANELRIGHTS_WOULD_LACK_ACCESS;
+    right &= panelrights_explain_step(row.state, sizeof row.state - 1, 6, 0, 0, 1) == PANELRIGHTS_UNSOUND_STATE;
+}
+
 struct call {
     const char *name;
     void (*work)(void);
@@ -137,9 +166,14 @@ int main(void)
         {"read_file", call_read_file, NULL}, {"access", call_access, NULL},
         {"recipe", call_recipe, NULL},       {"label", call_label, NULL},
         {"labels", call_labels, NULL},       {"write_file", call_write_file, NULL},
+        {"explain", call_explain, NULL},     {"explain_step", call_explain_step, NULL},
     };
     size_t i;
 
+    found(&row);
+    put_object(&row, 9, 0);
+    LEND(&row, 9, OUTWARD, 0, 1, 2, 3, 4, 5, 6, 7, 8, 9);
+    SET(row.state, IMPORT_AT(9, 8));
     for (i = 0; i < sizeof calls / sizeof *calls; i++) {
         size_t bytes = measure(&calls[i]);
 

@@ -14,6 +14,9 @@ void check_number(unsigned long got, unsigned long expected, const char *what, c
 /* How many checks there were so far. */
 unsigned long checks(void);
 
+/* A number below the limit, from a fixed sequence. */
+unsigned draw(unsigned limit);
+
 /* Which bit of a record a number or a pair is, by the header's table: bit 0 is the lowest of byte 0, bit 8
  * that of byte 1. Before version 3 it was the byte of this number. */
 enum { BITS = 8 * PANELRIGHTS_STATE_BYTES };
@@ -55,8 +58,34 @@ struct guarded {
     uint8_t behind[GUARD];
 };
 
+/* Room for bytes that are lent, with others before and behind them. */
+struct lent {
+    uint8_t before[GUARD];
+    uint8_t bytes[100];
+    uint8_t behind[GUARD];
+};
+
 /* The founding state between guards. */
 void found(struct guarded *site);
+
+/* The founding state after the first lines of document 01's session, whose answers are checked. */
+enum { SESSION = 12 };
+struct line {
+    uint8_t instruction[4];
+    uint8_t answer;
+};
+extern const struct line session[SESSION];
+void run_session(struct guarded *site, size_t lines);
+
+/* Areas 0 to 9, each in the next. Areas 0 to 8 export object 9, which area 0 defines. */
+void make_row(struct guarded *site);
+
+/*
+ * Areas 0 to 15, and area 0 lies in each of the others. It defines objects 0 to 31 and exports them, so the
+ * others have access. Area 1 imports object 0, and area 2 exports it. Area 1 defines object 40, which nobody
+ * exports. User 0 owns all areas, user 4 areas 1 and 2.
+ */
+void make_star(struct guarded *site);
 
 /*
  * All that a sound state can have: every number is listed and every pair is there, but that area o % 32 alone
@@ -65,13 +94,45 @@ void found(struct guarded *site);
  */
 void make_full(struct guarded *site);
 
+/* User 0 owns the area, which defines the object. */
+void put_object(struct guarded *site, uint8_t object, uint8_t area);
+
+/* The object is lent along the areas, from each to the next: outward, by exports, or inward, by imports. User 0
+ * owns them all. */
+enum way { OUTWARD, INWARD, BY_TURNS };
+void lend(struct guarded *site, uint8_t object, enum way way, const uint8_t *areas, size_t count);
+
+/* LEND(&site, 9, OUTWARD, 1, 2, 0): object 9 goes from area 1 to area 2, and from there to area 0. */
+#define LEND(site, object, way, ...)                                                                         \
+    lend((site), (object), (way), (const uint8_t[]){__VA_ARGS__}, sizeof((const uint8_t[]){__VA_ARGS__}))
+
+/* All areas, which user 0 owns, and user 1 one of them. They stand in drawn layers for object 9: it goes from
+ * layer to layer, mostly over several areas, for up to 9 steps. So too for objects 0 and 63, if these are to be
+ * there. */
+void draw_site(struct guarded *site, int for_others);
+
+/* Does the object move from one area to the other in a step? */
+int moves(const uint8_t *state, uint32_t object, unsigned from, unsigned to);
+
+/* For each number of steps the areas, a bit each, from which the object gets to the area in so many. */
+void find_leading(const uint8_t *state, uint32_t area, uint32_t object,
+                  uint32_t leading[PANELRIGHTS_MOST_STEPS + 1]);
+
 /* Hands a founding record over as of each of some other lengths, that of records before version 3 among them,
  * and of length 0 as NULL. Checks that no byte of it changes, and none before or behind it. */
 void with_other_lengths(void (*refuse)(uint8_t *state, size_t state_len));
 
 /* Obeys the instruction, checks the answer and, if it is not 0, that no byte is changed; the guards in any
- * case. */
+ * case. The reason that is given beforehand is checked too. */
 void step(struct guarded *site, const uint8_t instruction[4], uint8_t refusal);
+
+/* Why the instruction is refused: checks that the number is this one, that a pair is named with 11 and with no
+ * other, and that no byte is changed. */
+uint32_t reason(const struct guarded *site, const uint8_t instruction[4], uint8_t refusal);
+
+/* The access question, and its answer. Checks that the explanation is of the same answer: the first of the
+ * chains with as many steps, the counts that are answered for all areas, or the refusal. */
+uint16_t ask(const struct guarded *site, uint32_t area, uint32_t object);
 
 /* A recipe: each instruction as code, kind of a, value of a, kind of b, value of b. */
 struct recipe {
@@ -132,6 +193,8 @@ void test_machine(void);
 void test_recipes(void);
 void test_forms(void);
 void test_agreement(void);
+void test_explaining(void);
+void test_reasons(void);
 void test_records(void);
 void test_reading(void);
 void test_files(void);

@@ -77,6 +77,25 @@ impl Labels {
         text_of(self.entries.get(place)?)
     }
 
+    /// How the area is named in words: by its number, and by its label if it has one.
+    ///
+    /// ```
+    /// # use panelrights::{BadLabel, Labels};
+    /// # fn main() -> Result<(), BadLabel> {
+    /// let mut labels = Labels::new();
+    /// labels.set(4, "Sports hall")?;
+    /// assert_eq!(labels.name(4), "4 'Sports hall'");
+    /// assert_eq!(labels.name(5), "5");
+    /// # Ok(())
+    /// # }
+    /// ```
+    pub fn name(&self, area: u8) -> String {
+        match self.get(area) {
+            Some(text) => format!("{area} '{text}'"),
+            None => area.to_string(),
+        }
+    }
+
     /// Takes the area's label away. Was there one?
     pub fn remove(&mut self, area: u8) -> bool {
         match self.place_of(area) {

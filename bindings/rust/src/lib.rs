@@ -31,6 +31,9 @@
 //! # }
 //! ```
 //!
+//! [`State::explain`] says why an area has access to an object, or why not, and [`State::explain_step`] why an
+//! instruction is refused, and which loan stands in the way of a removal: both in words for the keyholder who rings.
+//!
 //! What is done in the same way each time, as opening a school, is a [`Recipe`]: 1 to 16 instructions, written once,
 //! whose numbers are fixed or come with the call. [`State::recipe`] obeys it entirely or not at all; a refusal says at
 //! which instruction, and why.
@@ -45,19 +48,23 @@
 
 pub mod sys;
 
+mod explanation;
 mod file;
 mod instruction;
 mod labels;
 mod recipe;
 mod refusal;
 mod state;
+mod step_refused;
 
+pub use explanation::{Chain, Counts, Explanation, Move, Way};
 pub use file::{label, labels, read_file};
 pub use instruction::{Instruction, Kind};
 pub use labels::{BadLabel, Labels};
 pub use recipe::{Operand, Recipe, RecipeLength, RecipeRefused};
 pub use refusal::{NoRefusal, Refusal};
 pub use state::{State, AREAS, MOST_STEPS, OBJECTS, USERS};
+pub use step_refused::{Lost, StepRefused};
 
 /// Of eight marks in a byte, the lowest number in the lowest bit: the place (0 to 7) of the lowest mark set, if any.
 ///

@@ -135,9 +135,9 @@ refusals! {
         one does not have 1 to 30 plain characters, or their list is out of order or damaged. Take away the labels of \
         areas that are not listed and correct the others; if all are right, tell the program's maker.";
     /// The state buffer has another length than a record. Over the C interface also a buffer that is shorter than the
-    /// site file.
-    BufferLength = 31: "The record of the site has the wrong length, or there is too little room for the site file. \
-        The program is at fault: tell its maker, and go back to the site file that was saved last.";
+    /// site file, or than the 32 bytes that an explanation asks for.
+    BufferLength = 31: "The record of the site has the wrong length, or there is too little room for the site file or \
+        for an explanation. The program is at fault: tell its maker, and go back to the site file that was saved last.";
 }
 
 impl Error for Refusal {}

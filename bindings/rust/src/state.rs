@@ -46,7 +46,8 @@ const EXPORTS: Part = Part::relation(784, OBJECTS);
 
 /// A sound state of a site: the founding one, that of a site file, that of a record, or what steps and recipes made of
 /// one of these. A state that is not sound can't be had, so 12 never comes from [`step`](State::step),
-/// [`recipe`](State::recipe), [`access`](State::access) or [`to_file`](State::to_file).
+/// [`recipe`](State::recipe), [`access`](State::access), [`explain`](State::explain),
+/// [`explain_step`](State::explain_step) or [`to_file`](State::to_file).
 ///
 /// It is a record of 1,040 bytes on the heap, and so is each clone that is kept for undo (8,320 before version 3). Equal
 /// states have equal records, and different states different ones.

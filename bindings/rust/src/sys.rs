@@ -20,6 +20,17 @@ pub const NO_ACCESS: u16 = 255;
 /// What [`panelrights_access`] adds to a refusal.
 pub const ACCESS_REFUSED: u16 = 256;
 
+/// What [`panelrights_explain`] adds to a refusal.
+pub const EXPLAIN_REFUSED: u16 = 256;
+/// What [`panelrights_explain`] adds to the number of bytes where it writes counts.
+pub const EXPLAIN_COUNTS: u16 = 512;
+/// How many bytes the buffer of [`panelrights_explain`] must have at least.
+pub const EXPLAIN_BYTES: usize = 32;
+/// The kind of pair, in the answer of [`panelrights_explain_step`], that is an import.
+pub const LOST_IMPORT: u8 = 1;
+/// The kind of pair, in the answer of [`panelrights_explain_step`], that is an export.
+pub const LOST_EXPORT: u8 = 2;
+
 /// How many bytes a site file has at most: a buffer of so many always does for [`panelrights_write_file`].
 pub const FILE_MOST: usize = 13_340;
 /// How many bytes each entry of a label block has.
@@ -73,6 +84,29 @@ extern "C" {
     /// # Safety
     /// `state_len` bytes may be read at `state`.
     pub fn panelrights_access(state: *const u8, state_len: usize, area: u32, object: u32) -> u16;
+
+    /// Writes the chain of areas behind an access, and answers its number of bytes; or, without access, the least counts
+    /// of all 32 areas, and answers [`EXPLAIN_COUNTS`] + 32. Bytes not written stay. Or [`EXPLAIN_REFUSED`] + the
+    /// refusal, which is 31, 12, 2 or 4, and no byte is written. 256 is no area, and not area 0.
+    ///
+    /// # Safety
+    /// `state_len` bytes may be read at `state`, `buffer_len` bytes read and written at `buffer`, and the two do not
+    /// overlap.
+    pub fn panelrights_explain(
+        state: *const u8,
+        state_len: usize,
+        area: u32,
+        object: u32,
+        buffer: *mut u8,
+        buffer_len: usize,
+    ) -> u16;
+
+    /// The number that a step would get; for 11 with the first pair that would be lost: number + 256 * (1 for an import,
+    /// 2 for an export) + 65536 * object + 16777216 * area.
+    ///
+    /// # Safety
+    /// `state_len` bytes may be read at `state`.
+    pub fn panelrights_explain_step(state: *const u8, state_len: usize, code: u8, activator: u8, a: u8, b: u8) -> u32;
 
     /// Reads a site file. 0, and the record is that of its state; or 21 to 29, and it is that of the founding state; or 31,
     /// and no byte is written.

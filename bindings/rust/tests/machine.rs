@@ -3,15 +3,16 @@
 
 mod common;
 
-use common::{after, changed, obey, EXPORTS, IMPORTS};
-use panelrights::{Instruction, Kind, Refusal, State};
+use common::{after, changed, obey, row, EXPORTS, IMPORTS};
+use panelrights::{Instruction, Kind, Refusal, State, StepRefused};
 
-/// What is set at last must be refused with the number, and leave the state as it was.
+/// What is set at last must be refused with the number, be explained by it, and leave the state as it was.
 fn refused(before: &[[u8; 4]], last: [u8; 4], number: u8) {
     let mut state = after(before);
     let given = state.clone();
     let refusal = state.step(last).expect_err("it is accepted");
     assert_eq!(refusal.number(), number, "{last:?}: {refusal}");
+    assert_eq!(state.explain_step(last).map_err(StepRefused::refusal), Err(refusal), "{last:?}");
     assert_eq!(state, given, "{last:?}");
 }
 
@@ -155,16 +156,6 @@ fn numbers_above_255_are_out_of_range() {
         }
     }
     assert_eq!(state.access(u32::MAX, u32::MAX), Err(Refusal::OutOfRange));
-}
-
-/// Areas 0 to 9, each in the next. Areas 0 to 8 export object 63, which area 0 defines: area 8 is at 8 steps, and the
-/// export of area 8 leads to area 9 by 9.
-fn row() -> State {
-    let mut state = after(&[[7, 0, 0, 63]]);
-    for area in 0..9 {
-        obey(&mut state, &[[1, 0, area + 1, 0], [5, 0, area, area + 1], [11, 0, area, 63]]);
-    }
-    state
 }
 
 #[test]

@@ -3,7 +3,7 @@
 
 mod common;
 
-use common::{after, changed, AREA_LIST};
+use common::{after, changed, Draw, AREA_LIST, LENT};
 use panelrights::Operand::{self, Fixed, P0, P1, P2, P3};
 use panelrights::{sys, Instruction, Kind, Recipe, RecipeLength, RecipeRefused, Refusal, State};
 use std::collections::BTreeSet;
@@ -137,7 +137,6 @@ fn refused_as(before: &[[u8; 4]], last: [u8; 4], number: u8) {
 /// The examples of document 01, and of document 02 for 15.
 #[test]
 fn each_number() {
-    let session = [[1, 0, 1, 0], [1, 0, 2, 0], [5, 0, 1, 2], [5, 0, 0, 2], [7, 0, 1, 9], [11, 0, 1, 9], [9, 0, 0, 9]];
     refused_as(&[], [13, 0, 0, 0], 1);
     refused_as(&[], [0, 0, 0, 0], 1);
     refused_as(&[], [7, 0, 0, 64], 2);
@@ -150,8 +149,8 @@ fn each_number() {
     refused_as(&[], [4, 0, 0, 0], 8);
     refused_as(&[[1, 0, 1, 0], [7, 0, 1, 9]], [2, 0, 1, 0], 9);
     refused_as(&[[1, 0, 1, 0], [7, 0, 0, 9]], [9, 0, 1, 9], 10);
-    refused_as(&session[..5], [9, 0, 0, 9], 10);
-    refused_as(&session, [12, 0, 1, 9], 11);
+    refused_as(&LENT[..5], [9, 0, 0, 9], 10);
+    refused_as(&LENT, [12, 0, 1, 9], 11);
     refused_as(&[[7, 0, 0, 9]], [9, 0, 0, 9], 15);
 }
 
@@ -393,15 +392,8 @@ fn one_by_one(state: &State, instructions: &[[u8; 4]]) -> (Result<(), RecipeRefu
     (Ok(()), now)
 }
 
-/// Numbers by chance, the same at each run.
-struct Draw(u64);
-
+/// What is drawn for recipes.
 impl Draw {
-    fn below(&mut self, limit: u8) -> u8 {
-        self.0 = self.0.wrapping_mul(6364136223846793005).wrapping_add(1442695040888963407);
-        ((self.0 >> 33) % u64::from(limit)) as u8
-    }
-
     /// A user, area or object: one of few, now and then one out of range.
     fn number(&mut self) -> u8 {
         match self.below(40) {

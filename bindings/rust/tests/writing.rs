@@ -2,7 +2,7 @@
 
 mod common;
 
-use common::{after, THIRTY};
+use common::{after, Draw, THIRTY};
 use panelrights::{labels, read_file, sys, BadLabel, Labels, Refusal, State};
 
 const SCHOOL: &[u8] = include_bytes!("../../../examples/school.site");
@@ -102,25 +102,19 @@ fn a_label_of_an_area_that_is_not_listed() {
 /// on the way.
 #[test]
 fn files_by_chance() {
-    let mut seed = 1_u64;
-    let mut below = |limit: u8| {
-        seed = seed.wrapping_mul(6364136223846793005).wrapping_add(1442695040888963407);
-        ((seed >> 33) % u64::from(limit)) as u8
-    };
+    let mut draw = Draw(1);
     let (mut state, mut written, mut refused) = (State::founding(), 0, 0);
     for _ in 0..40_000 {
-        if below(200) == 0 {
+        if draw.below(200) == 0 {
             state = State::founding();
         }
-        let (code, activator, a) = (1 + below(12), below(3), below(6));
-        let b = if code <= 2 { 0 } else { below(6) };
-        if state.step([code, activator, a, b]).is_err() {
+        if state.step(draw.instruction()).is_err() {
             continue;
         }
         let mut names = Labels::new();
-        for _ in 0..below(4) {
-            let text: String = (0..=below(30)).map(|_| char::from(b' ' + below(95))).collect();
-            names.set(below(6), &text).unwrap();
+        for _ in 0..draw.below(4) {
+            let text: String = (0..=draw.below(30)).map(|_| char::from(b' ' + draw.below(95))).collect();
+            names.set(draw.below(6), &text).unwrap();
         }
         if names.iter().all(|(area, _)| state.is_listed_area(area)) {
             comes_back(&state, &names);

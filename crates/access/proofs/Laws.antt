@@ -125,6 +125,10 @@ pub count-is-answer : Laws.CountIsAnswer
 unfolding leastCounts answer
 count-is-answer l a h = count-at (l .definedIn) (step l) longest a h
 
+pub counts-length : Laws.CountsLength
+unfolding leastCounts countsWithin
+counts-length l = length-tabulate _ (limit area)
+
 -- no chain leads past the areas
 pub outside : (l : Lending) (a : ℕ) → limit area ≤ a → answer l a ≡ NoAccess
 outside l a h =

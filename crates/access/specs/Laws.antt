@@ -6,7 +6,7 @@ use mathlib.Core.Path.{_≡_}
 use mathlib.Core.Logic.{_⊎_}
 use mathlib.Core.Bool.{Bool, true, false, not}
 use lib.Dec.{T, eqb}
-use lib.ListN.{getD}
+use lib.ListN.{length, getD}
 use Rattle.state.specs.Site.{area, object, limit, Kind, withListed, Relation, owner, firstKind, withPair, Shaped}
 use Rattle.state.specs.Site.{Site}
 use Rattle.access.specs.Lending.{Lending, lending}
@@ -36,6 +36,10 @@ SameMoves =
 -- the count of each area is the number of its answer
 abbrev pub CountIsAnswer : Type 0
 CountIsAnswer = (l : Lending) (a : ℕ) → a < limit area → getD (leastCounts l) a 0 ≡ answerNumber (answer l a)
+
+-- there are 32 of them
+abbrev pub CountsLength : Type 0
+CountsLength = (l : Lending) → length (leastCounts l) ≡ limit area
 
 -- the number of an answer is the least count of the area; past the areas both are that of 'no access'
 abbrev pub NumberIsCount : Type 0

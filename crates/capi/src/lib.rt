@@ -1,5 +1,6 @@
 // The C interface, which include/panelrights.h declares: numbers and byte slices. Each function takes a record apart,
 // where it is handed one, and calls one function of a crate below that decides; no rule stands here.
+ghost use Prim.Native.Nat.{_+_, _*_};
 ghost use mathlib.Core.Path.{_≡_};
 ghost use Rattle.records.specs.Record.{recordSize, numberFor};
 ghost use Rattle.instructions.specs.Instructions.{fourBytes};
@@ -8,9 +9,14 @@ ghost use Rattle.access.specs.Answer.{answerNumber};
 ghost use Rattle.interface.specs.Interface.{foundingBuffer, stepNumber, stepBuffer, answerOf, accessNumber, fileNumber};
 ghost use Rattle.interface.specs.Interface.{callOf, recipeAnswer, recipeBuffer, fileBuffer, labelNumber, blockNumber};
 ghost use Rattle.interface.specs.Interface.{placeNumber, writeAnswer, writeBuffer};
+ghost use Rattle.interface.specs.Interface.{explanationCode, explainAnswer, explainBuffer, lostCode};
+ghost use Rattle.interface.specs.Interface.{explainStepAnswer};
 use access::Answer;
 use label_finder::Place;
 use machine::Reply;
+use reasons::Entry;
+use reasons::Explanation;
+use reasons::Lost;
 use recipes::Call;
 use state::State;
 
@@ -103,6 +109,68 @@ pub extern "C" fn panelrights_access(state: &[u8], area: u32, object: u32) -> u1
     ensures { λ r. ⌜ r ≡ accessNumber (now (state .entry)) area object ⌝ }
 {
     answer_of(machine::ask(record_reader::state_of(state), area, object))
+}
+
+// The number that stands for an explanation: how many bytes the chain has, 512 + those of the counts, or 256 + n for
+// refusal n.
+fn explanation_code(explanation: Explanation) -> u16
+    ensures { λ r. ⌜ r ≡ explanationCode explanation ⌝ }
+{
+    match explanation {
+        Explanation::ByChain(count) => count as u16,
+        Explanation::ByCounts(count) => 512 + count as u16,
+        Explanation::Unexplained(n) => 256 + n as u16,
+    }
+}
+
+// Why has the area access to the object, or none? The chain or the counts are written from the front of the buffer.
+#[no_mangle]
+pub extern "C" fn panelrights_explain<'a>(
+    state: &'a [u8],
+    area: u32,
+    object: u32,
+    buffer: &'a mut [u8],
+) -> u16
+    ensures number { λ r. ⌜ r ≡ explainAnswer (now (state .entry)) area object (now (buffer .entry)) ⌝ }
+    ensures buffer { λ _. ⌜ now (buffer .exit)
+        ≡ explainBuffer (now (state .entry)) area object (now (buffer .entry)) ⌝ }
+{
+    let explanation = explain::explain(record_reader::state_of(state), area, object, buffer);
+    explanation_code(explanation)
+}
+
+// An object and an area in the two highest bytes of a number.
+fn entry_code(entry: Entry) -> u32
+    ensures { λ r. ⌜ r ≡ 65536 * entry .object + 16777216 * entry .area ⌝ }
+{
+    65536 * entry.object as u32 + 16777216 * entry.area as u32
+}
+
+// The number that stands for a pair that is lost: 1 for an import, 2 for an export in the byte below; 0 for none.
+fn lost_code(lost: Lost) -> u32
+    ensures { λ r. ⌜ r ≡ lostCode lost ⌝ }
+{
+    match lost {
+        Lost::NoneLost => 0,
+        Lost::LostImport(entry) => 256 + entry_code(entry),
+        Lost::LostExport(entry) => 512 + entry_code(entry),
+    }
+}
+
+// Why is the instruction refused? Its number, and for 11 the first pair whose area would lack access.
+#[no_mangle]
+pub extern "C" fn panelrights_explain_step(
+    state: &[u8],
+    code: u8,
+    activator: u8,
+    a: u8,
+    b: u8,
+) -> u32
+    ensures { λ r. ⌜ r ≡ explainStepAnswer (now (state .entry)) (fourBytes code activator a b) ⌝ }
+{
+    let reason = explain::explain_step(record_reader::state_of(state), code, activator, a, b);
+    let lost = reason.lost;
+    reason.refusal as u32 + lost_code(lost)
 }
 
 // Reads a site file: 0 and its state, or 21 to 29 and the founding state; 31 and no byte written, if the state's buffer

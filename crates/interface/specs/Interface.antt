@@ -7,6 +7,8 @@
 --     stepNumber, stepBuffer         panelrights_step
 --     recipeAnswer, recipeBuffer     panelrights_recipe
 --     accessNumber                   panelrights_access
+--     explainAnswer, explainBuffer   panelrights_explain
+--     explainStepAnswer              panelrights_explain_step
 --     fileNumber, fileBuffer         panelrights_read_file
 --     placeNumber                    what panelrights_label and panelrights_labels have in common
 --     labelNumber                    panelrights_label
@@ -26,6 +28,13 @@ use Rattle.instructions.specs.Instructions.{Bytes}
 use Rattle.machine.specs.Step.{stepOf, replyOf}
 use Rattle.machine.specs.declared.Reply.{Reply}
 use Rattle.machine.specs.declared.Reply.the-variants.{Refused, Answered}
+use Rattle.reasons.specs.Explanation.{explanationOf, explainedBuffer}
+use Rattle.reasons.specs.Lost.{lostKind, lostObject, lostArea, stepReasonOf}
+use Rattle.reasons.specs.declared.Explanation.{Explanation}
+use Rattle.reasons.specs.declared.Explanation.the-variants.{Unexplained, ByChain, ByCounts}
+use Rattle.reasons.specs.declared.Lost.{Lost}
+use Rattle.reasons.specs.declared.Lost.the-variants.{NoneLost, LostImport, LostExport}
+use Rattle.reasons.specs.declared.StepReason.{StepReason}
 use Rattle.recipes.specs.Run.{RecipeVerdict, recipeOf}
 use Rattle.recipes.specs.declared.Call.{Call}
 use Rattle.recipe_guarantees.specs.Commands.{Command, single, recipe}
@@ -82,6 +91,40 @@ answerOf (Refused n) = 256 + n
 
 unfoldable pub accessNumber : (buffer : List ℕ) (a b : ℕ) → ℕ
 accessNumber buffer a b = answerOf (cond (isRecord buffer) (replyOf (stateOf buffer) a b) (Refused 12))
+
+-- ---- panelrights_explain
+-- "With access, the chain" .. "The answer is how many areas it has"; "Without access, the counts" .. "The answer is 512
+-- + 32"; "For refusal r the answer is 256 + r"
+abbrev pub explanationCode : Explanation → ℕ
+explanationCode (ByChain count) = count
+explanationCode (ByCounts count) = 512 + count
+explanationCode (Unexplained n) = 256 + n
+
+-- bytes that are no record give the state of nothing, which is not sound: so 12, behind 31 (claim NoRecordUnexplained)
+abbrev pub explainAnswer : (buffer : List ℕ) (a b : ℕ) (into : List ℕ) → ℕ
+explainAnswer buffer a b into = explanationCode (explanationOf (stateOf buffer) a b into)
+
+-- "Writes into the buffer, from its front on", "Bytes not written keep their content"
+abbrev pub explainBuffer : (buffer : List ℕ) (a b : ℕ) (into : List ℕ) → List ℕ
+explainBuffer buffer a b into = explainedBuffer (stateOf buffer) a b into
+
+-- ---- panelrights_explain_step
+-- "256 * lost + 65536 * object + 16777216 * area"
+abbrev pub lostCode : Lost → ℕ
+lostCode x = 256 * lostKind x + 65536 * lostObject x + 16777216 * lostArea x
+
+-- "number + 256 * lost + 65536 * object + 16777216 * area"
+abbrev pub reasonCode : StepReason → ℕ
+reasonCode r = r .refusal + lostCode (r .lost)
+
+abbrev pub explainStepAnswer : (buffer : List ℕ) → Bytes → ℕ
+explainStepAnswer buffer x = reasonCode (stepReasonOf (stateOf buffer) x)
+
+-- the pair that three numbers stand for
+abbrev pub lostOfParts : (kind o a : ℕ) → Lost
+lostOfParts kind o a =
+    cond (eqb kind 1) (LostImport (record { object = o; area = a }))
+    (cond (eqb kind 2) (LostExport (record { object = o; area = a })) NoneLost)
 
 -- ---- panelrights_read_file
 -- "31 and no byte written, whatever the file has, if state_len is not panelrights_state_bytes()", else the file's

@@ -28,7 +28,7 @@ module _ (ds st : Rows) (tr : Pairs) (im ex : Rows) (o : ℕ) (turned : tr ≡ t
   abbrev move : ℕ → ℕ → Bool
   move = moveBy (cellsOf st) tr (bit (getD im o 0)) (bit (getD ex o 0))
 
-  same-step : (s r : ℕ) → s < width → r < width → move s r ≡ step object s r
+  pub same-step : (s r : ℕ) → s < width → r < width → move s r ≡ step object s r
   unfolding moveBy step
   same-step s r hs hr =
       ap₂ (λ (a b : Bool). a || b) (ap (λ (b : Bool). b && pair (cellsOf st) s r) (sym (pair-bit ex o s hs)))

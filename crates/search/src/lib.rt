@@ -10,7 +10,7 @@ ghost use Rattle.search.specs.Rounds.{moveBy, nextTo, reachable};
 use access::Answer;
 
 // How many steps are looked at: a longer chain gives no access.
-const LONGEST: u8 = 8;
+pub const LONGEST: u8 = 8;
 
 // The areas that the object can move to in one step from an area of the layer: out of those that export it, and into
 // those that import it.
@@ -30,7 +30,7 @@ fn next<'a>(
 }
 
 // The same for an object by itself, for which no transpose is made: the rows of those that import it are looked at.
-fn next_alone(layer: u32, structure: &[u32; 32], imported: u32, exported: u32) -> u32
+pub fn next_alone(layer: u32, structure: &[u32; 32], imported: u32, exported: u32) -> u32
     ensures { λ r. ⌜ r ≡ nextTo (moveBy (cellsOf (now (structure .entry))) (transpose (cellsOf (now
         (structure .entry)))) (bit imported) (bit exported)) layer ⌝ }
 {

@@ -11,17 +11,21 @@
 --     some-stop, some-done                a number that does, and none left
 --     first-is, first-none, first-met     the number that meets it while none before does, none at all, and that it does meet it
 --     first-under, first-within           none before it meets it, and it is below n, or n
+--     none-at                             where none meets the test, each does not
+--     first-found, first-or-none          where some number meets the test, the first does, and else it is n
+--     some-same, first-same               of two tests that agree below n
 -- Assumes nothing.
 use Prim.Native.Nat.{ℕ, zero, suc, _+_, _≤_, _<_}
 use mathlib.Core.Path.{_≡_, refl, sym, ap, ap₂, subst, _∙_}
 use mathlib.Core.Logic.{_⊎_, inl, inr}
-use mathlib.Core.Bool.{Bool, true, false, _&&_, _||_, cond, and-true, and-assoc}
+use mathlib.Core.Bool.{Bool, true, false, _&&_, _||_, not, cond, and-true, and-assoc}
 use native.Mathlib.Nat.{not-suc-le-zero, add-zero, add-suc}
 use native.Mathlib.Numerals.{add-one}
 use native.Mathlib.Omega.{arith}
-use native.Mathlib.Decide.{ℕ-discrete}
-use lib.Dec.{T}
-use Rattle.state.proofs.Bools.{or-left, or-right, or-cases, and-both, and-left, and-right, is-true, is-false, holds, fails, test}
+use native.Mathlib.Decide.{ℕ-discrete, decLt}
+use borrow.Author.Tests.{eq-eqb, ne-eqb}
+use lib.Dec.{T, eqb}
+use Rattle.state.proofs.Bools.{or-left, or-right, or-cases, and-both, and-left, and-right, same-test, is-true, is-false, holds, fails, test}
 use Rattle.state.specs.Below.{eachBelow, countBelow, someBelow, firstFrom, firstBelow}
 
 module _ (f : ℕ → Bool) where
@@ -257,3 +261,45 @@ module _ (f : ℕ → Bool) where
 
   pub first-within : (n : ℕ) → firstBelow n f ≤ n
   first-within n = let h : firstBelow n f ≤ 0 + n = from-within n 0 in omega arith
+
+  -- where none meets the test, each does not
+  pub none-at : (n : ℕ) → someBelow n f ≡ false → (k : ℕ) → k < n → f k ≡ false
+  none-at n none k h = is-false (f k) (λ t. fails none (some-by n k h t))
+
+  -- where some number meets the test, the first is below n and meets it
+  pub first-found : (n : ℕ) → T (someBelow n f) → (firstBelow n f < n) × T (f (firstBelow n f))
+  first-found n t = (inside, holds (first-met n inside))
+    where
+      inside : firstBelow n f < n
+      inside = go (decLt (firstBelow n f) n)
+        where
+          go : Dec (firstBelow n f < n) → firstBelow n f < n
+          go (yes h) = h
+          go (no h) =
+              let s = some-at n t in
+              let b : s .place < n = s .below in
+              absurd (fails (first-under n (s .place) (omega arith)) (s .met))
+
+-- the first is n exactly where none meets the test
+pub first-or-none : (f : ℕ → Bool) (n : ℕ) → eqb (firstBelow n f) n ≡ not (someBelow n f)
+first-or-none f n = go (test (someBelow n f))
+  where
+    go : T (someBelow n f) ⊎ (someBelow n f ≡ false) → eqb (firstBelow n f) n ≡ not (someBelow n f)
+    go (inl t) =
+        let found : firstBelow n f < n = first-found f n t .0 in
+        ne-eqb (firstBelow n f) n (λ e. omega arith) ∙ sym (ap not (is-true (someBelow n f) t))
+    go (inr none) = eq-eqb (firstBelow n f) n (first-none f n (none-at f n none)) ∙ sym (ap not none)
+
+-- ---- two tests that agree below n
+pub some-same : (f g : ℕ → Bool) (n : ℕ) → ((k : ℕ) → k < n → f k ≡ g k) → someBelow n f ≡ someBelow n g
+some-same f g n same = same-test (someBelow n f) (someBelow n g) (there f g same) (there g f (λ k h. sym (same k h)))
+  where
+    there : (f g : ℕ → Bool) → ((k : ℕ) → k < n → f k ≡ g k) → T (someBelow n f) → T (someBelow n g)
+    there f g same t = let s = some-at f n t in some-by g n (s .place) (s .below) (subst T (same (s .place) (s .below)) (s .met))
+
+-- have the same first, where one is found
+pub first-same : (f g : ℕ → Bool) (n : ℕ) → ((k : ℕ) → k < n → f k ≡ g k) → T (someBelow n f) → firstBelow n f ≡ firstBelow n g
+first-same f g n same t =
+    let found = first-found f n t in
+    let at : firstBelow n f < n = found .0 in
+    sym (first-is g n (firstBelow n f) at (sym (same (firstBelow n f) at) ∙ is-true _ (found .1)) (λ m h. sym (same m (omega arith)) ∙ first-under f n m h))

@@ -63,6 +63,10 @@ pub so-not : (a : Bool) → (T a → ⊥) → T (not a)
 so-not true f = f tt
 so-not false f = tt
 
+pub not-same : (a : Bool) → not (not a) ≡ a
+not-same true = refl
+not-same false = refl
+
 pub not-not : (a : Bool) → (T (not a) → ⊥) → T a
 not-not true f = tt
 not-not false f = f tt

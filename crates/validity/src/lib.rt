@@ -3,56 +3,46 @@ ghost use mathlib.Core.Path.{_≡_};
 ghost use mathlib.Core.Logic.{_↔_};
 ghost use lib.Dec.{T};
 ghost use Rattle.bits.specs.Rows.{cellsOf};
-ghost use Rattle.state.specs.Below.{eachBelow};
+ghost use Rattle.state.specs.Below.{eachBelow, firstBelow};
 ghost use Rattle.state.specs.Stands.{site};
 ghost use Rattle.soundness.specs.Sound.{Valid};
 ghost use Rattle.soundness.specs.Tests.{isValid};
-ghost use Rattle.validity.specs.Parts.{siteFor, validFor, reachesEach, objectValid};
+ghost use Rattle.validity.specs.Parts.{siteFor, validFor, lacking};
 use state::State;
 
-// Has each area that imports or exports an object access to it? The object is given by its rows.
-fn reaches_each<'a>(
-    defined: u32,
-    structure: &'a [u32; 32],
-    transposed: &'a [u32; 32],
-    imported: u32,
-    exported: u32,
-) -> bool
-    ensures { λ r. ⌜ r ≡ reachesEach defined (now (structure .entry)) (cellsOf (now (transposed .entry))) imported
-        exported ⌝ }
-{
-    let wanted = bits::union(imported, exported);
-    search::reaches(defined, structure, transposed, imported, exported, wanted)
-}
-
-// For each import or export pair of the 64 objects, has the area access to the object? Every object is asked about,
-// listed or not: pairs of one that is not listed count.
-fn each_is_valid<'a>(
+// The first object with a pair, of these or of those, whose area lacks access by the relations; 64 if there is none.
+// Every object is asked about, listed or not: pairs of one that is not listed count.
+pub fn first_lacking<'a>(
     definitions: &'a [u32; 64],
     structure: &'a [u32; 32],
-    transposed: &'a [u32; 32],
     imports: &'a [u32; 64],
     exports: &'a [u32; 64],
-) -> bool
-    ensures { λ r. ⌜ r ≡ eachBelow 64 (objectValid (now (definitions .entry)) (now (structure .entry)) (cellsOf (now
-        (transposed .entry))) (now (imports .entry)) (now (exports .entry))) ⌝ }
+    these: &'a [u32; 64],
+    those: &'a [u32; 64],
+) -> u8
+    ensures { λ r. ⌜ r ≡ firstBelow 64 (lacking (siteFor (now (definitions .entry)) (now (structure .entry)) (now
+        (imports .entry)) (now (exports .entry))) (cellsOf (now (these .entry))) (cellsOf (now (those .entry)))) ⌝ }
 {
-    for o in 0..64usize {
-        if !reaches_each(
-            definitions[o],
+    let transposed = relations::transposed(structure);
+    for o in 0..64u8 {
+        let at = o as usize;
+        let wanted = bits::union(these[at], those[at]);
+        if !search::reaches(
+            definitions[at],
             structure,
-            transposed,
-            imports[o],
-            exports[o],
+            &transposed,
+            imports[at],
+            exports[at],
+            wanted,
         ) {
-            return false;
+            return o;
         }
     }
-    true
+    64
 }
 
-// The same, with the transpose made here. Whoever has a record lends its relations, and it is not copied. Any content
-// may be asked about.
+// Has each area that imports or exports an object access to it, by these relations? Whoever has a record lends its
+// relations, and it is not copied. Any content may be asked about.
 pub fn are_valid<'a>(
     definitions: &'a [u32; 64],
     structure: &'a [u32; 32],
@@ -62,8 +52,7 @@ pub fn are_valid<'a>(
     ensures { λ r. ⌜ r ≡ eachBelow 64 (validFor (siteFor (now (definitions .entry)) (now (structure .entry)) (now
         (imports .entry)) (now (exports .entry)))) ⌝ }
 {
-    let transposed = relations::transposed(structure);
-    each_is_valid(definitions, structure, &transposed, imports, exports)
+    first_lacking(definitions, structure, imports, exports, imports, exports) == 64
 }
 
 // Is the record valid? Any content may be asked about.

@@ -1,6 +1,7 @@
 //! Instructions from standard input, obeyed all or not at all, and the site file saved.
 
 use crate::site::{load, refused, Site};
+use panelrights::StepRefused;
 use std::ffi::OsStr;
 use std::fs::{self, File};
 use std::io::{self, Read, Write};
@@ -43,11 +44,20 @@ fn obey_lines(site: &mut Site, input: &[u8]) -> Result<(), String> {
     for (line, text) in (1..).zip(input.split_inclusive(|&byte| byte == b'\n')) {
         let told = |number, words: &str| refused(number, format!("At line {line}: {words} Nothing was changed."));
         let numbers = read_line(text).ok_or_else(|| told(UNREADABLE_LINE, UNREADABLE))?;
-        site.state.step(numbers).map_err(|refusal| told(refusal.number(), &refusal.to_string()))?;
+        let step = site.state.step(numbers);
+        step.map_err(|refusal| told(refusal.number(), &refusal.to_string()) + &lost(site, numbers))?;
         // At each line: an area that is listed again later is another one, and has not the old label.
         site.labels.keep_listed(&site.state);
     }
     Ok(())
+}
+
+/// Who would lose what, as a line, by a removal that is refused as 11.
+fn lost(site: &Site, numbers: [u8; 4]) -> String {
+    match site.state.explain_step(numbers) {
+        Err(StepRefused::WouldLose(lost)) => format!("{}\n", lost.words(&site.labels)),
+        _ => String::new(),
+    }
 }
 
 /// A line: four numbers with one space between them, and byte 10.

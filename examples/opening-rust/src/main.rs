@@ -8,9 +8,8 @@ mod site;
 
 use panelrights::Operand::{self, Fixed, P0, P1, P2, P3};
 use panelrights::{Kind, Recipe, RecipeRefused};
-use site::{failed, finished, load, refused, Site};
+use site::{failed, finished, load, number, refused, Site};
 use std::env;
-use std::ffi::OsString;
 use std::fmt;
 use std::process::ExitCode;
 
@@ -87,15 +86,9 @@ fn told(why: RecipeRefused) -> String {
     }
 }
 
-/// A decimal number from 0 to 255.
-fn number(text: &OsString) -> Option<u8> {
-    let text = text.to_str()?;
-    text.bytes().all(|byte| byte.is_ascii_digit()).then(|| text.parse().ok())?
-}
-
 fn main() -> ExitCode {
     let arguments: Vec<_> = env::args_os().skip(1).collect();
-    let numbers: Option<Vec<_>> = arguments.iter().skip(1).map(number).collect();
+    let numbers: Option<Vec<_>> = arguments.iter().skip(1).map(|text| number(text)).collect();
     let (Some(name), Some(&[activator, school, hall, keyholder, table])) = (arguments.first(), numbers.as_deref())
     else {
         return failed("usage: opening FILE ACTIVATOR SCHOOL HALL KEYHOLDER TABLE, numbers from 0 to 255");

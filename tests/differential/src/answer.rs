@@ -1,5 +1,7 @@
 //! What one side answers.
 
+use reference::State;
+
 /// The number that a call returns, and the bytes that it leaves in the caller's buffer, finds or prints.
 #[derive(Clone, Debug, PartialEq, Eq)]
 pub struct Answer {
@@ -25,5 +27,11 @@ impl Answer {
         all.retain(|complaint| !complaint.is_empty());
         self.complaint = all.join("; ");
         self
+    }
+
+    /// The same with a complaint, if by the state the reason that it gives is not the true one.
+    pub fn judged(self, state: Option<&State>, is_true: impl Fn(&State, &Answer) -> bool) -> Answer {
+        let is_untrue = state.is_some_and(|state| !is_true(state, &self));
+        self.complaining(is_untrue.then(|| "this is not the true reason".to_string()))
     }
 }

@@ -2,7 +2,7 @@
 
 use crate::answer::Answer;
 use crate::site::Site;
-use crate::{commands, expected, lending, library, program, taking_back};
+use crate::{commands, expected, explaining, lending, library, program, reasons, taking_back};
 use reference::{Call, Command};
 use std::borrow::Cow;
 
@@ -31,6 +31,18 @@ pub enum Case<'a> {
         site: Cow<'a, Site>,
         area: u32,
         object: u32,
+    },
+    /// Why an area has access or not, into a buffer of so many bytes.
+    Explain {
+        site: Cow<'a, Site>,
+        area: u32,
+        object: u32,
+        buffer_len: usize,
+    },
+    /// Why an instruction is refused.
+    Reason {
+        site: Cow<'a, Site>,
+        instruction: [u8; 4],
     },
     /// A list of instructions, one after the other, and what demand 3 says of it.
     List {
@@ -101,6 +113,22 @@ impl<'a> Case<'a> {
         }
     }
 
+    pub fn explain(site: &'a Site, area: u32, object: u32, buffer_len: usize) -> Case<'a> {
+        Case::Explain {
+            site: Cow::Borrowed(site),
+            area,
+            object,
+            buffer_len,
+        }
+    }
+
+    pub fn reason(site: &'a Site, instruction: [u8; 4]) -> Case<'a> {
+        Case::Reason {
+            site: Cow::Borrowed(site),
+            instruction,
+        }
+    }
+
     pub fn list(site: &'a Site, list: &'a [[u8; 4]]) -> Case<'a> {
         Case::List {
             site: Cow::Borrowed(site),
@@ -157,6 +185,8 @@ impl<'a> Case<'a> {
             Case::Back { .. } => "back",
             Case::Recipe { .. } => "recipe",
             Case::Access { .. } => "access",
+            Case::Explain { .. } => "explain",
+            Case::Reason { .. } => "reason",
             Case::List { .. } => "list",
             Case::Commands { .. } => "commands",
             Case::Read { .. } => "read",
@@ -175,6 +205,13 @@ impl<'a> Case<'a> {
             Case::Back { site, add } => taking_back::by_library(site, *add),
             Case::Recipe { site, bytes, call } => library::recipe(&site.record, bytes, call),
             Case::Access { site, area, object } => library::access(&site.record, *area, *object),
+            Case::Explain {
+                site,
+                area,
+                object,
+                buffer_len,
+            } => explaining::by_library(site, *area, *object, *buffer_len),
+            Case::Reason { site, instruction } => reasons::by_library(site, *instruction),
             Case::List { site, list } => lending::run_by_library(site, list),
             Case::Commands { site, list } => commands::run_by_library(site, list),
             Case::Read { file, buffer_len } => library::read_file(file, *buffer_len),
@@ -197,6 +234,13 @@ impl<'a> Case<'a> {
             Case::Back { site, add } => expected::back(site, *add),
             Case::Recipe { site, bytes, call } => expected::recipe(site, bytes, call),
             Case::Access { site, area, object } => expected::access(site, *area, *object),
+            Case::Explain {
+                site,
+                area,
+                object,
+                buffer_len,
+            } => expected::explain(site, *area, *object, *buffer_len),
+            Case::Reason { site, instruction } => expected::reason(site, *instruction),
             Case::List { site, list } => expected::run(site, list),
             Case::Commands { site, list } => expected::run_commands(site, list),
             Case::Read { file, buffer_len } => expected::read_file(file, *buffer_len),

@@ -2,7 +2,7 @@
 
 use crate::answer::Answer;
 use crate::case::Case;
-use crate::expected::WRITE_REFUSED;
+use crate::expected::{EXPLAIN_COUNTS, EXPLAIN_REFUSED, WRITE_REFUSED};
 use crate::places::{bit, meaning, PLACES};
 use crate::text::{bytes_text, state_text};
 use reference::RECORD_BYTES;
@@ -30,6 +30,8 @@ pub fn answer_text(case: &Case, answer: &Answer) -> String {
         Case::Write { .. } if number >= WRITE_REFUSED => format!("refused with {}", number - WRITE_REFUSED),
         Case::Write { .. } => format!("a file of {number} bytes"),
         Case::Recipe { .. } => format!("{} at place {}", number & 0xff, number >> 8),
+        Case::Explain { .. } => explanation_text(number),
+        Case::Reason { .. } => reason_text(number),
         _ => number.to_string(),
     };
     if !answer.complaint.is_empty() {
@@ -38,16 +40,40 @@ pub fn answer_text(case: &Case, answer: &Answer) -> String {
     text
 }
 
+fn explanation_text(number: u32) -> String {
+    match number {
+        EXPLAIN_COUNTS.. => format!("counts of {} bytes", number - EXPLAIN_COUNTS),
+        EXPLAIN_REFUSED.. => format!("refused with {}", number - EXPLAIN_REFUSED),
+        _ => format!("a chain of {number} bytes"),
+    }
+}
+
+fn reason_text(number: u32) -> String {
+    let [number, kind, object, area] = number.to_le_bytes();
+    let kind = match kind {
+        0 if [object, area] == [0, 0] => return format!("{number} and no pair"),
+        1 => "an import",
+        2 => "an export",
+        _ => "a pair of no kind",
+    };
+    format!("{number} and {kind}, object {object}, area {area}")
+}
+
 /// The whole content: a state by its sets, a buffer in hexadecimal, other bytes as text.
 pub fn content_text(case: &Case, answer: &Answer) -> String {
     match case {
         Case::Program { .. } | Case::Label { .. } => String::from_utf8_lossy(&answer.bytes).into_owned(),
-        Case::Labels { .. } | Case::Write { .. } => bytes_text(&answer.bytes),
+        _ if is_buffer(case) => bytes_text(&answer.bytes),
         _ => match reference::from_record(&answer.bytes) {
             Some(state) => state_text(&state),
             None => format!("{} bytes, no record", answer.bytes.len()),
         },
     }
+}
+
+/// Are the bytes of its answers something else than a record, and no text?
+fn is_buffer(case: &Case) -> bool {
+    matches!(case, Case::Labels { .. } | Case::Write { .. } | Case::Explain { .. })
 }
 
 fn bytes_difference(case: &Case, library: &[u8], reference: &[u8]) -> String {
@@ -57,7 +83,7 @@ fn bytes_difference(case: &Case, library: &[u8], reference: &[u8]) -> String {
     if library.len() != reference.len() {
         return format!("{} bytes and {} bytes", library.len(), reference.len());
     }
-    let is_record = library.len() == RECORD_BYTES && !matches!(case, Case::Labels { .. } | Case::Write { .. });
+    let is_record = library.len() == RECORD_BYTES && !is_buffer(case);
     let named: Vec<String> = match library.len() {
         _ if is_record => {
             let of_both = |place: usize| [bit(library, place), bit(reference, place)];

@@ -1,14 +1,13 @@
 //! Every sound state over users 0 and 1, areas 0 and 1 and object 0, with every instruction and access question over
 //! those numbers, the first number beyond them and the first beyond the limits; questions over those plus 256 too. Each
-//! accepted add is taken back. And every such state with an own import besides.
+//! accepted add is taken back, and all are explained. And every such state with an own import besides.
 
 use crate::case::Case;
-use crate::library;
 use crate::numbers::STEP_ANSWERS;
 use crate::seen::Seen;
 use crate::shards::Plan;
 use crate::site::Site;
-use crate::taking_back;
+use crate::{explaining, library, reasons, taking_back};
 use reference::State;
 use std::collections::BTreeSet;
 use std::sync::Mutex;
@@ -33,19 +32,23 @@ pub fn run(plan: &Plan) -> (String, Seen) {
     let (about_own_imports, own) = with_own_imports(plan, &sites);
     let line = format!(
         "of {} records {} sound by the library, {} by the reference; \
-         {} steps, answers 0 to 7, 15, 8 to 11: {:?}; {}; {} access questions; {about_own_imports}",
+         {} steps, answers 0 to 7, 15, 8 to 11: {:?}; {}; {}; {} access questions; {}; {about_own_imports}",
         1 << PLACES,
         accepted.len(),
         sites.len(),
         asked.total("step"),
         asked.each("step", STEP_ANSWERS),
         taking_back::text(&asked),
+        reasons::text(&asked),
         asked.total("access"),
+        explaining::text(&asked),
     );
     seen.add(asked);
     seen.add(own);
     seen.require("step", STEP_ANSWERS, 500);
     taking_back::require(&mut seen, 500, 100);
+    reasons::require(&mut seen, 500);
+    explaining::require(&mut seen, 1..=2, 500);
     (line, seen)
 }
 
@@ -56,11 +59,13 @@ fn with_own_imports(plan: &Plan, sites: &[Site]) -> (String, Seen) {
         let of_shard = sites.iter().skip(shard).step_by(plan.shards());
         of_shard.for_each(|site| own_import(site, seen));
     });
-    let (steps, questions) = (seen.total("step"), seen.total("access"));
-    let refused = seen.times("step", 12) + seen.times("access", 268);
-    seen.demand(refused == steps + questions, "an own import is refused as 12");
+    let answers_of_12 = [("step", 12), ("reason", 12), ("access", 268), ("explain", 268)];
+    let asked = answers_of_12.map(|(what, _)| seen.total(what));
+    let refused = answers_of_12.map(|(what, number)| seen.times(what, number));
+    seen.demand(refused == asked, "an own import is refused as 12");
     let line = format!(
-        "{} with an own import besides, {steps} steps and {questions} questions, {refused} refused as 12",
+        "{} with an own import besides, steps, their reasons, questions, explanations: {asked:?}, \
+         refused as 12: {refused:?}",
         sites.len()
     );
     (line, seen)
@@ -122,6 +127,7 @@ fn every_instruction(site: &Site, seen: &mut Seen) {
             for a in [0, 1, 2, 32] {
                 for b in [0, 1, 2, 32, 64] {
                     taking_back::step(site, [code, activator, a, b], seen);
+                    reasons::put(site, [code, activator, a, b], seen);
                 }
             }
         }
@@ -141,18 +147,23 @@ fn own_import(site: &Site, seen: &mut Seen) {
         for (activator, a) in AREA_PAIRS {
             for b in [0, 1] {
                 seen.compare(&Case::step(site, [code, activator, a, b]));
+                seen.compare(&Case::reason(site, [code, activator, a, b]));
             }
         }
     }
     for area in [0, 1] {
         seen.compare(&Case::access(site, area, 0));
+        seen.compare(&Case::explain(site, area, 0, 32));
     }
 }
 
 fn every_question(site: &Site, seen: &mut Seen) {
-    for area in [0, 1, 2, 32, 256, 257] {
+    for area in [0, 1, 2, 3, 32, 256, 257] {
         for object in [0, 1, 64, 256] {
             seen.compare(&Case::access(site, area, object));
+            for buffer_len in [0, 31, 32, 33] {
+                seen.compare(&Case::explain(site, area, object, buffer_len));
+            }
         }
     }
 }

@@ -10,6 +10,10 @@ const STATE_LENGTH: u32 = 31;
 const NO_ACCESS: u32 = 255;
 const ACCESS_REFUSED: u32 = 256;
 
+/// What an explanation adds to a refusal, and to the number of bytes where it is counts.
+pub const EXPLAIN_REFUSED: u32 = 256;
+pub const EXPLAIN_COUNTS: u32 = 512;
+
 /// What the writer adds to a refusal, so that it is no length.
 pub const WRITE_REFUSED: u32 = 65536;
 
@@ -73,6 +77,25 @@ pub fn access(site: &Site, area: u32, object: u32) -> Answer {
         Err(refusal) => ACCESS_REFUSED + u32::from(refusal),
     };
     Answer::new(number, site.record.clone())
+}
+
+/// Chain, counts or refusal, and the whole buffer.
+pub fn explain(site: &Site, area: u32, object: u32, buffer_len: usize) -> Answer {
+    let mut buffer = before_writing(buffer_len);
+    let explanation = match &site.state {
+        Some(state) => reference::explain(state, area, object, &mut buffer),
+        None => reference::explain_record(&site.record, area, object, &mut buffer),
+    };
+    Answer::new(reference::explanation_number(explanation), buffer)
+}
+
+/// The number and the pair; no byte is changed.
+pub fn reason(site: &Site, instruction: [u8; 4]) -> Answer {
+    let reason = match &site.state {
+        Some(state) => reference::explain_step(state, instruction),
+        None => reference::explain_step_record(&site.record, instruction),
+    };
+    Answer::new(reference::step_reason_number(reason), site.record.clone())
 }
 
 pub fn read_file(file: &[u8], buffer_len: usize) -> Answer {

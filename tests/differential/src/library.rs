@@ -11,7 +11,8 @@ const GUARD: u8 = 0x5a;
 /// What a buffer holds before a call that is to write it: few records have such a byte, so that one left alone shows.
 pub const UNWRITTEN: u8 = 0xaa;
 
-/// What a buffer holds before a file is written there: bytes that no table of a file has, and neighbours that differ.
+/// What a buffer holds before a file or an explanation is written there: bytes that no table of a file, no chain and no
+/// counts have, and neighbours that differ.
 pub fn before_writing(buffer_len: usize) -> Vec<u8> {
     (0..buffer_len).map(|place| 128 + (place % 127) as u8).collect()
 }
@@ -104,6 +105,25 @@ pub fn access(record: &[u8], area: u32, object: u32) -> Answer {
     let mut buffer = Guarded::new(record);
     // SAFETY: so many bytes may be read there.
     let number = unsafe { sys::panelrights_access(buffer.pointer(), record.len(), area, object) };
+    buffer.answer(number)
+}
+
+/// Into a buffer of so many bytes, all of which are in the answer.
+pub fn explain(record: &[u8], area: u32, object: u32, buffer_len: usize) -> Answer {
+    let mut buffer = Guarded::new(&before_writing(buffer_len));
+    let mut state = Guarded::new(record);
+    let [record_at, written] = [&mut state, &mut buffer].map(Guarded::pointer);
+    // SAFETY: so many bytes may be read in the one, and read and written in the other; they are two.
+    let number = unsafe { sys::panelrights_explain(record_at, record.len(), area, object, written, buffer_len) };
+    let mut answer = buffer.answer(number);
+    complain_of_change(&mut answer, &state, record);
+    answer
+}
+
+pub fn explain_step(record: &[u8], [code, activator, a, b]: [u8; 4]) -> Answer {
+    let mut buffer = Guarded::new(record);
+    // SAFETY: so many bytes may be read there.
+    let number = unsafe { sys::panelrights_explain_step(buffer.pointer(), record.len(), code, activator, a, b) };
     buffer.answer(number)
 }
 

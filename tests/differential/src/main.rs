@@ -21,6 +21,7 @@ mod difference;
 mod draft;
 mod exhaustive;
 mod expected;
+mod explaining;
 mod files;
 mod instructions;
 mod lending;
@@ -37,10 +38,12 @@ mod places;
 mod program;
 mod random;
 mod random_bytes;
+mod reasons;
 mod recipes;
 mod records;
 mod seen;
 mod shards;
+mod shortest;
 mod site;
 mod small_recipes;
 mod states;
@@ -63,12 +66,14 @@ const USUAL_SEED: u64 = 20_260_101;
 
 type Part = fn(&Plan) -> (String, Seen);
 
-const PARTS: [(&str, Part); 11] = [
+const PARTS: [(&str, Part); 13] = [
     ("basics", basics::run),
     ("exhaustive", exhaustive::run),
     ("random", random::run),
     ("records", records::run),
     ("old-records", old_records::run),
+    ("explaining", explaining::run),
+    ("reasons", reasons::run),
     ("recipes", recipes::run),
     ("files", files::run),
     ("writing", writing::run),

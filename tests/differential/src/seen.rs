@@ -57,6 +57,13 @@ impl Seen {
         *self.counts.entry((what, number)).or_default() += 1;
     }
 
+    /// Counts each of these that was met.
+    pub fn count_met(&mut self, met: &[(&'static str, bool)]) {
+        for (what, _) in met.iter().filter(|(_, is_met)| *is_met) {
+            self.count(what, 0);
+        }
+    }
+
     pub fn times(&self, what: &'static str, number: u32) -> u64 {
         self.counts.get(&(what, number)).copied().unwrap_or_default()
     }

@@ -21,6 +21,9 @@ pub enum Shape {
     Ring,
     /// A circle, and objects that go both ways round it, so that a cut leaves a way that is longer.
     BothWays,
+    /// Areas in layers, and objects that go from each to the next over several areas, so that many shortest chains are
+    /// equally long.
+    Layers,
 }
 
 /// How large a state is to be, and how full.
@@ -47,6 +50,10 @@ impl Size {
             Shape::Ring if chance.once_in(3) => [(1, 5), (9, 32), (1, 4), (0, 50), (90, 100), (0, 100)],
             Shape::Ring => [(1, 5), (1, 9), (1, 4), (0, 50), (60, 100), (17, 17)],
             Shape::BothWays => [(1, 5), (9, 17), (1, 2), (0, 50), (100, 100), (90, 100)],
+            Shape::Layers => {
+                let spare = chance.pick(&[(0, 0), (2, 12), (30, 100)]);
+                [(1, 5), (12, 32), (1, 4), (0, 50), (100, 100), spare]
+            }
         };
         let [users, areas, objects, owners, lending, spare] =
             bounds.map(|(least, most)| least + chance.below(most - least + 1));
@@ -72,6 +79,7 @@ pub fn sound_state(shape: Shape, chance: &mut Chance) -> State {
         state.objects.insert(object);
         let definer = match shape {
             Shape::Chain if chance.once_in(4) => areas[0],
+            Shape::Layers if !chance.once_in(4) => areas[0],
             _ => chance.pick(&areas),
         };
         state.definitions.insert((object, definer));
@@ -123,6 +131,7 @@ fn structure(shape: Shape, areas: &[u8], chance: &mut Chance) -> Pairs {
         Shape::Medium => random_pairs(areas, areas, chance.pick(&[5, 10, 20]), chance),
         Shape::Dense => random_pairs(areas, areas, chance.pick(&[30, 60, 90, 100]), chance),
         Shape::Chain | Shape::Ring | Shape::BothWays => row(areas, chance),
+        Shape::Layers => layers(areas, chance),
     };
     if let Shape::Ring | Shape::BothWays = shape {
         pairs.insert(either_way((areas[areas.len() - 1], areas[0]), chance));
@@ -150,6 +159,32 @@ fn row(areas: &[u8], chance: &mut Chance) -> Pairs {
             _ => either_way((one, other), chance),
         })
         .collect()
+}
+
+/// Behind the first area layers of a few. Each area lies in most of those of the layer before, or they in it: all the
+/// same way, or any way. At times a few pairs besides.
+fn layers(areas: &[u8], chance: &mut Chance) -> Pairs {
+    let (kind, widest) = (chance.below(3), 2 + chance.below(4));
+    let mut pairs = random_pairs(areas, areas, chance.pick(&[0, 0, 1]), chance);
+    let (mut before, mut rest) = areas.split_at(1);
+    while !rest.is_empty() {
+        let width = (1 + chance.below(widest)).min(rest.len());
+        let (layer, behind) = rest.split_at(width);
+        for &area in layer {
+            let one_at_least = chance.pick(before);
+            for &other in before {
+                if other == one_at_least || !chance.once_in(3) {
+                    pairs.insert(match kind {
+                        0 => (other, area),
+                        1 => (area, other),
+                        _ => either_way((other, area), chance),
+                    });
+                }
+            }
+        }
+        (before, rest) = (layer, behind);
+    }
+    pairs
 }
 
 fn either_way((one, other): (u8, u8), chance: &mut Chance) -> (u8, u8) {

@@ -26,11 +26,19 @@ impl Display for Case<'_> {
         write!(to, "{} ", self.kind())?;
         match self {
             Case::Founding { buffer_len } => write!(to, "{buffer_len}"),
-            Case::Step { site, instruction } | Case::Back { site, add: instruction } => {
+            Case::Step { site, instruction }
+            | Case::Back { site, add: instruction }
+            | Case::Reason { site, instruction } => {
                 write!(to, "{} {}", numbers_text(instruction, " "), site_text(site))
             }
             Case::Recipe { site, bytes, call } => write!(to, "{} {}", recipe_text(bytes, call), site_text(site)),
             Case::Access { site, area, object } => write!(to, "{area} {object} {}", site_text(site)),
+            Case::Explain {
+                site,
+                area,
+                object,
+                buffer_len,
+            } => write!(to, "{buffer_len} {area} {object} {}", site_text(site)),
             Case::List { site, list } => {
                 let items: Vec<String> = list.iter().map(|instruction| numbers_text(instruction, ".")).collect();
                 write!(to, "{} {}", or_dash(items.join(",")), site_text(site))
@@ -186,14 +194,15 @@ pub fn parse(text: &str) -> Result<Case<'static>, String> {
 /// A case over a site, which stands behind its other words.
 fn parse_over_site(words: &[&str]) -> Result<Case<'static>, String> {
     let case = match *words {
-        ["step", code, activator, a, b, ref site @ ..] => Case::Step {
-            site: Cow::Owned(parse_site(site)?),
-            instruction: parse_instruction([code, activator, a, b])?,
-        },
-        ["back", code, activator, a, b, ref site @ ..] => Case::Back {
-            site: Cow::Owned(parse_site(site)?),
-            add: parse_instruction([code, activator, a, b])?,
-        },
+        [kind @ ("step" | "back" | "reason"), code, activator, a, b, ref site @ ..] => {
+            let site = Cow::Owned(parse_site(site)?);
+            let instruction = parse_instruction([code, activator, a, b])?;
+            match kind {
+                "step" => Case::Step { site, instruction },
+                "back" => Case::Back { site, add: instruction },
+                _ => Case::Reason { site, instruction },
+            }
+        }
         ["recipe", recipe, ref site @ ..] => {
             let (bytes, call) = parse_recipe(recipe)?;
             Case::Recipe {
@@ -206,6 +215,12 @@ fn parse_over_site(words: &[&str]) -> Result<Case<'static>, String> {
             site: Cow::Owned(parse_site(site)?),
             area: number(area)?,
             object: number(object)?,
+        },
+        ["explain", len, area, object, ref site @ ..] => Case::Explain {
+            site: Cow::Owned(parse_site(site)?),
+            area: number(area)?,
+            object: number(object)?,
+            buffer_len: number(len)?,
         },
         ["write", len, block, ref site @ ..] => Case::Write {
             site: Cow::Owned(parse_site(site)?),
