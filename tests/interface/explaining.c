@@ -175,11 +175,11 @@ static void test_rows(void)
     EXPECT_COUNTS(&site, 9, 9, 0, 1, 2, 3, 4, 5, 6, 7, 8, 255);
     found(&site);
     put_object(&site, 63, mixed[0]);
-    lend(&site, 63, BY_TURNS, mixed, sizeof mixed);
+    lend_along(&site, 63, BY_TURNS, mixed, sizeof mixed);
     explain_row(&site, 63, mixed);
     found(&site);
     put_object(&site, 0, mixed[0]);
-    lend(&site, 0, OUTWARD, mixed, sizeof mixed);
+    lend_along(&site, 0, OUTWARD, mixed, sizeof mixed);
     explain_row(&site, 0, mixed);
 }
 

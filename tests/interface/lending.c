@@ -8,7 +8,7 @@ void put_object(struct guarded *site, uint8_t object, uint8_t area)
     SET(site->state, AREA_AT(area), OWNER_AT(0, area), OBJECT_AT(object), DEFINITION_AT(object, area));
 }
 
-void lend(struct guarded *site, uint8_t object, enum way way, const uint8_t *areas, size_t count)
+void lend_along(struct guarded *site, uint8_t object, enum way way, const uint8_t *areas, size_t count)
 {
     size_t i;
 
@@ -44,7 +44,7 @@ static void draw_layers(struct guarded *site, uint8_t object)
                 if (reached[from] && layer[from] == depth - 1 && layer[to] == depth && draw(2) == 0) {
                     const uint8_t areas[2] = {from, to};
 
-                    lend(site, object, depth < 9 && draw(2) == 0 ? INWARD : OUTWARD, areas, 2);
+                    lend_along(site, object, depth < 9 && draw(2) == 0 ? INWARD : OUTWARD, areas, 2);
                     reached[to] = 1;
                 }
 }

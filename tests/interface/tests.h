@@ -100,11 +100,11 @@ void put_object(struct guarded *site, uint8_t object, uint8_t area);
 /* The object is lent along the areas, from each to the next: outward, by exports, or inward, by imports. User 0
  * owns them all. */
 enum way { OUTWARD, INWARD, BY_TURNS };
-void lend(struct guarded *site, uint8_t object, enum way way, const uint8_t *areas, size_t count);
+void lend_along(struct guarded *site, uint8_t object, enum way way, const uint8_t *areas, size_t count);
 
 /* LEND(&site, 9, OUTWARD, 1, 2, 0): object 9 goes from area 1 to area 2, and from there to area 0. */
 #define LEND(site, object, way, ...)                                                                         \
-    lend((site), (object), (way), (const uint8_t[]){__VA_ARGS__}, sizeof((const uint8_t[]){__VA_ARGS__}))
+    lend_along((site), (object), (way), (const uint8_t[]){__VA_ARGS__}, sizeof((const uint8_t[]){__VA_ARGS__}))
 
 /* All areas, which user 0 owns, and user 1 one of them. They stand in drawn layers for object 9: it goes from
  * layer to layer, mostly over several areas, for up to 9 steps. So too for objects 0 and 63, if these are to be
