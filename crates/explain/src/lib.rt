@@ -2,16 +2,14 @@
 ghost use mathlib.Core.Path.{_≡_};
 ghost use mathlib.Core.Bool.{false};
 ghost use lib.ListN.{length};
-ghost use Rattle.bits.specs.Rows.{cellsOf};
 ghost use Rattle.state.specs.Checks.{firstMet};
 ghost use Rattle.state.specs.Stands.{site};
-ghost use Rattle.access.specs.Lending.{lendingOf};
 ghost use Rattle.access.specs.Answer.{answer};
 ghost use Rattle.validity.specs.Parts.{siteFor};
 ghost use Rattle.instructions.specs.Instructions.{fourBytes};
 ghost use Rattle.successors.specs.Successor.{changed};
 ghost use Rattle.output.specs.Buffer.{laid};
-ghost use Rattle.reasons.specs.Explanation.{bytesFor, reasonBytes, explainRefusals, which, explanationOf};
+ghost use Rattle.reasons.specs.Explanation.{reasonBytes, explainRefusals, explainedBy, explanationOf};
 ghost use Rattle.reasons.specs.Explanation.{explanationNumber, explanationBytes, explainedBuffer};
 ghost use Rattle.reasons.specs.Lost.{firstLost, reason, stepReasonOf};
 ghost use Rattle.reasons.specs.declared.Lost.the-variants.{NoneLost};
@@ -37,16 +35,10 @@ fn put_reason<'a>(
     object: u8,
     buffer: &'a mut [u8],
 ) -> Explanation
-    ensures equation { λ r. ⌜ r ≡ which (answer (lendingOf (cellsOf (now (definitions .entry))) (cellsOf (now
-        (structure .entry))) (cellsOf (now (imports .entry))) (cellsOf (now (exports .entry))) object) area)
-        (length (bytesFor (lendingOf (cellsOf (now (definitions .entry))) (cellsOf (now (structure .entry))) (cellsOf
-        (now (imports .entry))) (cellsOf (now (exports .entry))) object) area (answer (lendingOf (cellsOf (now
-        (definitions .entry))) (cellsOf (now (structure .entry))) (cellsOf (now (imports .entry))) (cellsOf (now
-        (exports .entry))) object) area))) ⌝ }
-    ensures buffer { λ _. ⌜ now (buffer .exit) ≡ laid (bytesFor (lendingOf (cellsOf (now (definitions .entry))) (cellsOf
-        (now (structure .entry))) (cellsOf (now (imports .entry))) (cellsOf (now (exports .entry))) object) area (answer
-        (lendingOf (cellsOf (now (definitions .entry))) (cellsOf (now (structure .entry))) (cellsOf (now
-        (imports .entry))) (cellsOf (now (exports .entry))) object) area)) 0 (now (buffer .entry)) ⌝ }
+    ensures equation { λ r. ⌜ r ≡ explainedBy (siteFor (now (definitions .entry)) (now (structure .entry)) (now
+        (imports .entry)) (now (exports .entry))) area object ⌝ }
+    ensures buffer { λ _. ⌜ now (buffer .exit) ≡ laid (reasonBytes (siteFor (now (definitions .entry)) (now
+        (structure .entry)) (now (imports .entry)) (now (exports .entry))) area object) 0 (now (buffer .entry)) ⌝ }
 {
     let count = chain_finder::put_chain(
         definitions,

@@ -44,11 +44,13 @@ abbrev pub which : Answer → (count : ℕ) → Explanation
 which (Steps n) count = ByChain count
 which NoAccess count = ByCounts count
 
+-- what is answered where nothing is refused
+abbrev pub explainedBy : Site → (a b : ℕ) → Explanation
+explainedBy s a b = which (answer (lending s b) a) (length (reasonBytes s a b))
+
 unfoldable pub explanationOf : Site → (a b : ℕ) → (buffer : List ℕ) → Explanation
 explanationOf s a b buffer =
-    cond (eqb (explainRefusal s a b buffer) 0)
-    (which (answer (lending s b) a) (length (reasonBytes s a b)))
-    (Unexplained (explainRefusal s a b buffer))
+    cond (eqb (explainRefusal s a b buffer) 0) (explainedBy s a b) (Unexplained (explainRefusal s a b buffer))
 
 -- the paper's number for each case, 0 for what is not refused; and how many bytes were written
 abbrev pub explanationNumber : Explanation → ℕ

@@ -6,8 +6,6 @@ use mathlib.Core.List.{List, _++_}
 use lib.Dec.{T}
 use lib.ListN.{length, drop}
 use Rattle.state.specs.Site.{Site, object, limit, import, export}
-use Rattle.access.specs.Lending.{lending}
-use Rattle.access.specs.Answer.{answer}
 use Rattle.soundness.specs.Sound.{Valid}
 use Rattle.instructions.specs.Instructions.{Bytes, rule}
 use Rattle.instructions.specs.Decode.{decodeOf}
@@ -19,7 +17,7 @@ use Rattle.refusals.specs.Refusals.{bearsAccess}
 use Rattle.refusals.specs.Parts.{ofObject}
 use Rattle.machine.specs.Step.{stepRefusal}
 use Rattle.reasons.specs.declared.Explanation.the-variants.{Unexplained}
-use Rattle.reasons.specs.Explanation.{reasonBytes, explainRefusal, which, explanationOf, explainedBuffer}
+use Rattle.reasons.specs.Explanation.{reasonBytes, explainRefusal, explainedBy, explanationOf, explainedBuffer}
 use Rattle.reasons.specs.Lost.{isLost, firstLost, lostOf, reasonFor, stepReasonOf}
 
 -- what is refused has its number, and changes no byte
@@ -32,7 +30,7 @@ RefusedSo =
 abbrev pub ExplainedSo : Type 0
 ExplainedSo =
     (s : Site) (a b : ℕ) (buffer : List ℕ) → explainRefusal s a b buffer ≡ 0
-    → (explanationOf s a b buffer ≡ which (answer (lending s b) a) (length (reasonBytes s a b)))
+    → (explanationOf s a b buffer ≡ explainedBy s a b)
     × (explainedBuffer s a b buffer ≡ reasonBytes s a b ++ drop (length (reasonBytes s a b)) buffer)
 
 -- the reason of a step, by its number and the state that it would give
