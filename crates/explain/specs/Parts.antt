@@ -1,5 +1,5 @@
--- Not needed to believe a claim. What `explain::lost_without` is asked with: a pair that bears access, of a number in its
--- range, and relations that are valid and as long as those of a record.
+-- Not needed to believe a claim. What `explain::lost_without` is asked with: a pair that bears access, whose second
+-- number is in its range, and relations that are valid and as long as those of a record.
 use Prim.Native.Nat.{ℕ}
 use mathlib.Core.Path.{_≡_}
 use lib.Dec.{T}
