@@ -1,4 +1,6 @@
 // A row of 32 bits as a set of places 0 to 31.
+#![tactic(auto)]
+
 ghost use Rattle.std.specs.Prelude.{◌≡◌};
 ghost use Rattle.bits.specs.Bits.{bit, with_bit, union, intersection, difference, is_empty, is_subset};
 ghost use Rattle.bits.specs.Bits.{size, Lowest, lowest, without_lowest, is_single};

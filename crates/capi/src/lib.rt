@@ -1,5 +1,7 @@
 // The C interface, which include/panelrights.h declares: numbers and byte slices. Each function takes a record apart,
 // where it is handed one, and calls one function of a crate below that decides; no rule stands here.
+#![tactic(auto)]
+
 ghost use Rattle.std.specs.Prelude.{◌+◌, ◌*◌, ◌≡◌};
 ghost use Rattle.records.specs.Record.{record_size, number_for};
 ghost use Rattle.instructions.specs.Instructions.{four_bytes};

@@ -1,5 +1,7 @@
 // Finds the first chain of an object to an area, which is written from the front of a buffer, and the least counts of
 // all areas.
+#![tactic(auto)]
+
 ghost use Rattle.std.specs.Prelude.{◌≡◌, true, ◌≤◌, length};
 ghost use Rattle.bits.specs.Bits.{bit};
 ghost use Rattle.bits.specs.Rows.{cells_of};

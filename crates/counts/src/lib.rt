@@ -1,4 +1,6 @@
 // How many users, areas, objects and pairs a record has.
+#![tactic(auto)]
+
 ghost use Rattle.std.specs.Prelude.{◌≡◌, ◌≤◌, length};
 ghost use Rattle.bits.specs.Rows.{cells_of};
 ghost use Rattle.state.specs.Walk.{count};

@@ -1,6 +1,8 @@
 // What is run of the library's functions that no C program reaches. Here: the access question of document 01's session
 // and of the traps around it, of relations that need not be a sound state's. In the modules: a transcript in buffers of
 // several lengths (buffers), and the label finder's part of a file (labels).
+#![tactic(auto)]
+
 mod buffers;
 mod labels;
 

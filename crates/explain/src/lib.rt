@@ -1,4 +1,6 @@
 // Why the screen says so: the chain or the counts behind an access answer, and the pair behind a refusal as 11.
+#![tactic(auto)]
+
 ghost use Rattle.std.specs.Prelude.{◌≡◌, false, length};
 ghost use Rattle.state.specs.Checks.{first_met};
 ghost use Rattle.state.specs.Stands.{site};

@@ -1,6 +1,8 @@
 // Whether a record is sound: consistent, acceptable, with at least one area, valid, and without an import by the area
 // that defines the object. Rows are tested one by one, and what is wrong is gathered to the end, so that the compiler
 // looks at many rows at once.
+#![tactic(auto)]
+
 ghost use Rattle.std.specs.Prelude.{◌≡◌, ◌↔◌, ◌≤◌, T};
 ghost use Rattle.state.specs.Below.{each_below};
 ghost use Rattle.state.specs.Site.{area, members};

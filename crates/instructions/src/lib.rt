@@ -1,4 +1,6 @@
 // What four bytes mean: the instruction that they fit.
+#![tactic(auto)]
+
 ghost use Rattle.std.specs.Prelude.{◌≡◌};
 ghost use Rattle.instructions.specs.Instructions.{four_bytes, adding, removing, rule};
 ghost use Rattle.state.specs.Checks.{first_met};

@@ -1,4 +1,6 @@
 // The label finder: an area's label, and the block of all labels, are parts of the caller's file.
+#![tactic(auto)]
+
 ghost use Rattle.std.specs.Prelude.{◌≡◌, eqb};
 ghost use Rattle.site_format.specs.Format.{behind};
 ghost use Rattle.site_file.specs.Reading.{file_refusal};

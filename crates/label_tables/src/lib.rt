@@ -1,5 +1,7 @@
 // The table of labels, as a slice of its own bytes: whether it is in range, ascending and of listed areas, and which
 // entry is an area's.
+#![tactic(auto)]
+
 ghost use Rattle.std.specs.Prelude.{◌≡◌, ◌+◌, ◌*◌, ◌≤◌, length};
 ghost use Rattle.state.specs.Below.{each_below};
 ghost use Rattle.bits.specs.Rows.{cells_of};

@@ -1,4 +1,6 @@
 // The lines of an input: four decimal numbers, read from their bytes.
+#![tactic(auto)]
+
 ghost use Rattle.std.specs.Prelude.{◌≡◌, [], ◌∷◌, suc, ◌≤◌, ◌<◌, length, take, drop};
 ghost use Rattle.lines.specs.Words.{word_number};
 ghost use Rattle.lines.specs.Digits.{with_digit, extended};

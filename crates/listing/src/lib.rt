@@ -1,4 +1,6 @@
 // The numbers that the pairs of a relation name, as a set.
+#![tactic(auto)]
+
 ghost use Rattle.std.specs.Prelude.{◌≡◌, ◌+◌, ◌≤◌};
 ghost use Rattle.bits.specs.Bits.{word};
 ghost use Rattle.bits.specs.Rows.{cells_of};

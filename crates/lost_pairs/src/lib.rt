@@ -1,4 +1,6 @@
 // Finds the first import or export pair whose area lacks access.
+#![tactic(auto)]
+
 ghost use Rattle.std.specs.Prelude.{◌≡◌, ◌&&◌, eqb, get_or};
 ghost use Rattle.bits.specs.Bits.{bit};
 ghost use Rattle.state.specs.Below.{first_below};

@@ -1,4 +1,6 @@
 // The machine: any four bytes with any record get one successor state or one refusal number.
+#![tactic(auto)]
+
 ghost use Rattle.std.specs.Prelude.{◌≡◌};
 ghost use Rattle.state.specs.Site.{verdict};
 ghost use Rattle.state.specs.Stands.{site};

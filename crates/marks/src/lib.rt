@@ -1,4 +1,6 @@
 // The lowest of the eight marks in a byte.
+#![tactic(auto)]
+
 mod table;
 
 ghost use Rattle.std.specs.Prelude.{◌≡◌};

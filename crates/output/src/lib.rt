@@ -1,5 +1,7 @@
 // Text written into a buffer: bytes and numbers one behind the other; or a whole text, and nothing where the buffer is
 // too short.
+#![tactic(auto)]
+
 ghost use Rattle.std.specs.Prelude.{◌≡◌, [], ◌∷◌};
 ghost use Rattle.output.specs.Decimal.{decimal};
 ghost use Rattle.output.specs.Buffer.{laid, place_behind, written_of, buffer_of};

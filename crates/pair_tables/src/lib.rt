@@ -1,4 +1,6 @@
 // A table of pairs, as a slice of its own bytes: whether it is in range and ascending, and the relation that it holds.
+#![tactic(auto)]
+
 ghost use Rattle.std.specs.Prelude.{◌≡◌, ◌+◌, ◌*◌, ◌≤◌, ◌<◌, length, set};
 ghost use Rattle.state.specs.Below.{each_below};
 ghost use Rattle.bits.specs.Rows.{cells_of};

@@ -1,4 +1,6 @@
 // The table of a relation, written into a buffer, and how many pairs it has.
+#![tactic(auto)]
+
 ghost use Rattle.std.specs.Prelude.{◌≡◌};
 ghost use Rattle.bits.specs.Rows.{cells_of};
 ghost use Rattle.state.specs.Cells.{pair};

@@ -1,5 +1,6 @@
 // PanelRights: reads lines of instructions from standard input, and prints what becomes of each and the counts of the
 // state at the end.
+#![tactic(auto)]
 
 // Reads to the end of the input, or until it is too long, which one byte more than the most shows. What is printed is
 // `transcript::print`'s.

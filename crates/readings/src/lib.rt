@@ -1,4 +1,6 @@
 // What is read of a record, whatever it holds: what the checks of an instruction ask about, and single questions.
+#![tactic(auto)]
+
 ghost use Rattle.std.specs.Prelude.{◌≡◌, ◌&&◌};
 ghost use Rattle.bits.specs.Rows.{cells_of};
 ghost use Rattle.state.specs.Site.{user, area, object, owner, listed, cells, site_of};

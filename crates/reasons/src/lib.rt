@@ -1,6 +1,7 @@
 // Why the screen says so: specs/ says which chain or counts explain an answer, which pair explains a refusal as 11, and
 // what is claimed of both; proofs/ has why the claims hold. There is no function here: crates `lost_pairs` and
 // `explain` have those.
+#![tactic(auto)]
 
 // What was written into the buffer, and how many bytes: the chain, or the counts; or the refusal.
 #[derive(Drop)]

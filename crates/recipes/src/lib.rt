@@ -1,4 +1,6 @@
 // Recipes: 1 to 16 instructions that run entirely or not at all.
+#![tactic(auto)]
+
 ghost use Rattle.std.specs.Prelude.{◌≡◌, ◌+◌, ◌<◌, get_or};
 ghost use Rattle.state.specs.Stands.{site};
 ghost use Rattle.instructions.specs.Instructions.{four_bytes};

@@ -1,4 +1,6 @@
 // Obeys an instruction on the bytes of a record, in place: the bits that it changes are written, and nothing else.
+#![tactic(auto)]
+
 ghost use Rattle.std.specs.Prelude.{◌≡◌, ◌+◌, ◌*◌, ◌/◌, ◌%◌, ◌<◌, T, length};
 ghost use Rattle.state.specs.Site.{owner, cells};
 ghost use Rattle.state.specs.Walk.{has_first};

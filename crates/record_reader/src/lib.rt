@@ -1,4 +1,6 @@
 // Reads the record of a state: from its bytes to the state.
+#![tactic(auto)]
+
 ghost use Rattle.std.specs.Prelude.{◌≡◌, ◌+◌, ◌*◌, ◌≤◌, length};
 ghost use Rattle.bits.specs.Bits.{word};
 ghost use Rattle.bits.specs.Rows.{cells_of};

@@ -1,4 +1,6 @@
 // Writes the record of a state: from the state to its bytes.
+#![tactic(auto)]
+
 ghost use Rattle.std.specs.Prelude.{◌≡◌, ◌+◌, ◌*◌, ◌≤◌, ◌<◌, length};
 ghost use Rattle.bits.specs.Bits.{word};
 ghost use Rattle.state.specs.Stands.{site};

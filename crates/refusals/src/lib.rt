@@ -1,5 +1,7 @@
 // When an instruction that the bytes fit is refused, and with which number: the early checks, of what was read of the
 // state given, and the late ones, of the state that the instruction would give. The state given is not changed.
+#![tactic(auto)]
+
 ghost use Rattle.std.specs.Prelude.{◌≡◌, false, ◌≤◌, T, length};
 ghost use Rattle.state.specs.Checks.{first_met};
 ghost use Rattle.state.specs.Stands.{site};

@@ -1,5 +1,7 @@
 // A set or a relation as rows of bits: what is read of it, what is written to it, and a relation between areas with
 // each pair turned round.
+#![tactic(auto)]
+
 ghost use Rattle.std.specs.Prelude.{◌≡◌, ◌<◌, T, length, get_or, set};
 ghost use Rattle.bits.specs.Bits.{word, with_bit, intersection};
 ghost use Rattle.bits.specs.Rows.{cells_of};

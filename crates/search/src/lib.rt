@@ -1,4 +1,6 @@
 // The search for the areas that an object reaches, layer by layer: each layer is a row of bits.
+#![tactic(auto)]
+
 ghost use Rattle.std.specs.Prelude.{◌≡◌};
 ghost use Rattle.bits.specs.Bits.{bit, is_subset};
 ghost use Rattle.bits.specs.Rows.{cells_of};

@@ -1,4 +1,6 @@
 // Site files: any bytes get a sound state or a refusal number.
+#![tactic(auto)]
+
 ghost use Rattle.std.specs.Prelude.{◌≡◌};
 ghost use Rattle.state.specs.Checks.{first_met};
 ghost use Rattle.state.specs.Site.{founding, verdict};

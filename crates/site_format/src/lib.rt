@@ -1,4 +1,6 @@
 // The format of a site file: its header's fields, and its six tables as parts of the file.
+#![tactic(auto)]
+
 ghost use Rattle.std.specs.Prelude.{◌≡◌, min, map, length, get_or, take, drop};
 ghost use Rattle.state.specs.Site.{owner, definition, structure, import, export};
 ghost use Rattle.site_format.specs.Format.{field, pairs_of, labels, layout_of, tables, held, as_layout, part};

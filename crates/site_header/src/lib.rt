@@ -1,4 +1,6 @@
 // The refusals of a site file's header, by its version, the file's length, and the tables' counts and offsets.
+#![tactic(auto)]
+
 ghost use Rattle.std.specs.Prelude.{◌≡◌};
 ghost use Rattle.state.specs.Checks.{first_met};
 ghost use Rattle.site_format.specs.Format.{header_size, tables, held};

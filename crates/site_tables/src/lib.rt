@@ -1,5 +1,7 @@
 // A record and the tables of a site file: the record that five tables of pairs give, and whether it lists the areas of
 // the labels.
+#![tactic(auto)]
+
 ghost use Rattle.std.specs.Prelude.{◌≡◌};
 ghost use Rattle.state.specs.Site.{area, members};
 ghost use Rattle.state.specs.Stands.{site};

@@ -1,4 +1,6 @@
 // The writer of site files: a state and its labels into a lent buffer, each byte of the file once.
+#![tactic(auto)]
+
 ghost use Rattle.std.specs.Prelude.{◌≡◌, not, [], ◌∷◌};
 ghost use Rattle.state.specs.Stands.{site};
 ghost use Rattle.label_tables.specs.Labels.{LawfulBlock};

@@ -20,15 +20,14 @@ use Rattle.state.specs.declared.State.{State}
 use Rattle.state.specs.contracts.State.{the_type}
 use Rattle.state.proofs.Stands.{site_shaped}
 
--- the entries come as a list of the machine's numbers, which are the same
-entries_fit : (rows : Rows) (values : List Val) → shadow (each ℕ (UInt w32).own_val (map (λ v. v) rows) values) → Fit rows
+entries_fit : (rows : Rows) (values : List Val) → shadow (each ℕ (UInt w32).own_val rows values) → Fit rows
 entries_fit [] values owned i = pow_pos places
 entries_fit (row ∷ rest) [] owned i = absurd owned
 entries_fit (row ∷ rest) (value ∷ values) owned zero = owned.0.1
 entries_fit (row ∷ rest) (value ∷ values) owned (suc i) = entries_fit rest values owned.1 i
 
-sized : (n : ℕ) (rows : Rows) (values : List Val) → shadow (in_array ℕ (UInt w32).own_val n (map (λ v. v) rows) values) → Sized n rows
-sized n rows values owned = record { long = sym (length-map rows (λ v. v)) ∙ owned.1.0.1; fit = entries_fit rows owned.0 owned.1.1 }
+sized : (n : ℕ) (rows : Rows) (values : List Val) → shadow (in_array ℕ (UInt w32).own_val n rows values) → Sized n rows
+sized n rows values owned = record { long = owned.1.0.1; fit = entries_fit rows owned.0 owned.1.1 }
 
 -- `owned` is `c.good.0.1.1`, where c is the start of a function whose first argument is the state
 pub fits_by_type : (s : State) (values : Valss (Declared.shape the_type).fields) → shadow (owns (Declared.shape the_type).fields (the_type.to s) values) → Fits s

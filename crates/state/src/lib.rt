@@ -1,4 +1,6 @@
 // The record of a site: listed users, areas and objects, and five relations.
+#![tactic(auto)]
+
 ghost use Rattle.std.specs.Prelude.{◌≡◌};
 ghost use Rattle.state.specs.Site.{empty, founding};
 ghost use Rattle.state.specs.Stands.{site};

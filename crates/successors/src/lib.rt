@@ -1,4 +1,6 @@
 // The state that an instruction gives.
+#![tactic(auto)]
+
 ghost use Rattle.std.specs.Prelude.{◌≡◌};
 ghost use Rattle.state.specs.Stands.{site};
 ghost use Rattle.successors.specs.Successor.{without_owner, changed, successor, successor_of};

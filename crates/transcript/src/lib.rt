@@ -1,4 +1,6 @@
 // The whole of PanelRights but for reading and writing: from the bytes of an input to the bytes that are printed.
+#![tactic(auto)]
+
 ghost use Rattle.std.specs.Prelude.{◌≡◌, ◌≤◌, length};
 ghost use Rattle.output.specs.Buffer.{laid, place_behind, written_of, buffer_of};
 ghost use Rattle.state.specs.Stands.{site};

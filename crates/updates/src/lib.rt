@@ -1,5 +1,7 @@
 // Updates of a record: the record with a number listed or not, with a pair or without it. A number or pair that lies
 // outside changes nothing.
+#![tactic(auto)]
+
 ghost use Rattle.std.specs.Prelude.{◌≡◌};
 ghost use Rattle.bits.specs.Rows.{cells_of};
 ghost use Rattle.state.specs.Cells.{mark, put};

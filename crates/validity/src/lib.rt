@@ -1,4 +1,6 @@
 // Whether a record is valid: for each import or export pair the area has access to the object.
+#![tactic(auto)]
+
 ghost use Rattle.std.specs.Prelude.{◌≡◌, ◌↔◌, T};
 ghost use Rattle.bits.specs.Rows.{cells_of};
 ghost use Rattle.state.specs.Below.{each_below, first_below};

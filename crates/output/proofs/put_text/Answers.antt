@@ -1,0 +1,25 @@
+-- `output::put_text` meets its contract. Turn i of the loop lays byte i.
+-- Assumes nothing.
+use Prim.Native.Nat.{ℕ, ◌-◌}
+use mathlib.Core.List.{List, [], ◌∷◌}
+use native.Mathlib.Numerals.{add-one}
+use native.Mathlib.Omega.{arith}
+use lib.ListN.{length, get_or, drop}
+use lib.Seq.{drop-cons, drop-length}
+use Rattle.output.proofs.Placing.{Turns, LaidTo, turns_none, turns_more, turns_all, placed_length}
+use Rattle.output.proofs.put_text.Goals as goal
+
+byte : List ℕ → ℕ → List ℕ
+byte text i = get_or text i 0 ∷ []
+
+bytes : (text : List ℕ) → Turns (length text) (byte text) (λ i. drop i text)
+unfolding byte
+bytes text = record { more = λ i h. rw (add-one i) (drop-cons text i 0 h); none = drop-length text }
+
+pub loop-i-init : goal.loop-i-init
+loop-i-init c = turns_none _ _ _ _ c.ranges.at.fits c.well_formed.0.0
+
+pub loop-i-preserved : goal.loop-i-preserved
+unfolding byte
+loop-i-preserved c =
+    turns_more _ _ _ (bytes _) _ _ _ _ _ c.loop-i.invariant c.loop-i-test.true _ _ (c.put-end.ensures.place, c.put-end.ensures.buffer)

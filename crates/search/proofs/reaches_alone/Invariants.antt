@@ -1,0 +1,23 @@
+-- `search::reaches_alone` meets its contract. The loop's invariant: `reached` has the areas within n steps, and `layer` those that are reached first in n.
+-- Assumes nothing.
+use Prim.Native.Nat.{ℕ, suc, ◌-◌, ◌≤◌, zero-le}
+use mathlib.Core.Path.{◌≡◌, sym, ap, ◌∙◌}
+use mathlib.Core.Bool.{Bool, true}
+use native.Mathlib.Omega.{arith}
+use native.Mathlib.Numerals.{add-one}
+use borrow.Author.Tests.{eqb-true}
+use Rattle.bits.specs.Bits.{bit, is_empty, is_subset}
+use Rattle.bits.specs.Rows.{cells_of}
+use Rattle.relations.specs.Relations.{transpose}
+use Rattle.access.specs.Answer.{longest}
+use Rattle.search.specs.Rounds.{move_by, reachable}
+use Rattle.search.proofs.Layers.{reached_row, layer_row, first_row, round, reach, within_found, within_ended, within_last}
+use Rattle.search.proofs.reaches_alone.Given as goal
+
+abbrev pub invariant-loop-n : goal.invariant-loop-n
+invariant-loop-n l =
+    let move = move_by (cells_of l.structure) (transpose (cells_of l.structure)) (bit l.imported) (bit l.exported) in
+    (l.n ≤ longest) × (l.layer ≡ layer_row (bit l.defined) move l.n) × (l.reached ≡ reached_row (bit l.defined) move l.n)
+
+abbrev pub decreases-loop-n : goal.decreases-loop-n
+decreases-loop-n l = longest - l.n

@@ -1,0 +1,13 @@
+-- `updates::with_owner` meets its contract.
+-- Assumes nothing.
+use Rattle.bits.specs.Rows.{cells_of}
+use Rattle.state.specs.Site.{site_of}
+use Rattle.state.specs.Stands.{site}
+use Rattle.updates.proofs.with_owner.Goals as goal
+
+pub returns : goal.returns
+unfolding site
+returns c =
+    let s = c.args.s in λ i.
+    site_of
+    (cells_of s.users) (cells_of s.areas) (cells_of s.objects) (c.put_32.ensures i) (cells_of s.definitions) (cells_of s.structure) (cells_of s.imports) (cells_of s.exports)
