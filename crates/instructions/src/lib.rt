@@ -9,7 +9,7 @@ ghost use Rattle.instructions.specs.Decode.{fits, ranged_as, decode_of, decoded_
 use state::State;
 
 // The twelve instructions.
-#[derive(Drop)]
+#[derive(Clone, Copy)]
 pub enum Instruction {
     ListArea,
     UnlistArea,
@@ -26,7 +26,7 @@ pub enum Instruction {
 }
 
 // What an instruction adds or removes: the area a, or a pair of a and b. It tells what b is as well.
-#[derive(Drop)]
+#[derive(Clone, Copy)]
 pub enum Target {
     TheArea,
     Owner,
@@ -37,7 +37,7 @@ pub enum Target {
 }
 
 // What must be listed: nothing, area a, or area a and b too.
-#[derive(Drop)]
+#[derive(Clone, Copy)]
 pub enum Lookup {
     NoLookup,
     OnlyA,
@@ -45,7 +45,7 @@ pub enum Lookup {
 }
 
 // What the activator must own: nothing, area a, both areas; or, to cut a structure pair, either.
-#[derive(Drop)]
+#[derive(Clone, Copy)]
 pub enum MustOwn {
     OwnsNothing,
     OwnsA,
@@ -54,7 +54,7 @@ pub enum MustOwn {
 }
 
 // A row of the table of instructions: an add or a remove, of what, and what it asks for.
-#[derive(Drop)]
+#[derive(Clone, Copy)]
 pub struct Rule {
     pub adds: bool,
     pub target: Target,
@@ -63,7 +63,7 @@ pub struct Rule {
 }
 
 // The instruction that four bytes fit, or that they fit none: the refusal 1 or 2.
-#[derive(Drop)]
+#[derive(Clone, Copy)]
 pub enum Decoded {
     Fits(Instruction),
     NoCode,

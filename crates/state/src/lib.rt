@@ -6,7 +6,7 @@ ghost use Rattle.state.specs.Site.{empty, founding};
 ghost use Rattle.state.specs.Stands.{site};
 
 // Rows of 32 bits. In a set, number i is bit i % 32 of row i / 32. In a relation the pair (i, j) is bit j of row i.
-#[derive(Drop)]
+#[derive(Clone, Copy)]
 pub struct State {
     pub users: [u32; 1],
     pub areas: [u32; 1],

@@ -1,0 +1,16 @@
+-- `inspection::are_disjoint` meets its contract. The loop's invariant: what is apart so far is whether the first o rows are.
+-- Assumes nothing.
+use Prim.Native.Nat.{◌-◌, ◌≤◌}
+use mathlib.Core.Path.{◌≡◌, sym, ap, ◌∙◌}
+use native.Mathlib.Omega.{arith}
+use Rattle.bits.specs.Bits.{is_empty}
+use Rattle.state.specs.Below.{each_below}
+use Rattle.state.proofs.Below.{each_none, each_step, each_end}
+use Rattle.inspection.specs.Parts.{apart_at}
+use Rattle.inspection.proofs.are_disjoint.Given as goal
+
+abbrev pub invariant-loop-o : goal.invariant-loop-o
+invariant-loop-o l = (l.o ≤ 64) × (l.apart ≡ each_below l.o (apart_at l.these l.those))
+
+abbrev pub decreases-loop-o : goal.decreases-loop-o
+decreases-loop-o l = 64 - l.o

@@ -1,0 +1,91 @@
+-- `inspection::is_sound` meets its contract: sound is well-formed, valid and without an own import.
+-- Assumes nothing.
+use mathlib.Core.Bool.{not}
+use mathlib.Core.Path.{ap}
+use mathlib.Core.Path.{◌≡◌, refl, sym, subst, ◌∙◌}
+use mathlib.Core.Logic.{◌↔◌}
+use mathlib.Core.Bool.{Bool, true, false, ◌&&◌}
+use borrow.Author.Tests.{not-true, not-false}
+use lib.Dec.{T}
+use Rattle.state.specs.Site.{Site, Shaped}
+use Rattle.state.specs.Stands.{site, Fits}
+use Rattle.state.specs.declared.State.{State}
+use Rattle.state.proofs.Typed.{fits_by_type, shaped_by_type}
+use Rattle.soundness.specs.Sound.{Sound}
+use Rattle.soundness.specs.Tests.{is_well_formed, is_valid, no_own_import, is_sound}
+use Rattle.soundness.proofs.Laws.{sound_decided}
+use Rattle.validity.proofs.Laws.{valid_by_objects}
+use Rattle.inspection.proofs.Parts.{well_formed_by_rows, disjoint_by_rows}
+use Rattle.inspection.proofs.is_sound.Goals as goal
+use Rattle.inspection.proofs.is_sound.Goals.{After-are_disjoint, After-are_valid, After-are_well_formed, Else-not-are_disjoint, Else-not-are_well_formed, Start}
+
+-- of the three tests the first that fails decides, and past two the third
+ill_formed : (s : Site) → is_well_formed s ≡ false → false ≡ is_sound s
+unfolding is_sound
+ill_formed s e = rw e refl
+
+own_import : (s : Site) → is_well_formed s ≡ true → no_own_import s ≡ false → false ≡ is_sound s
+unfolding is_sound
+own_import s e n = rw (e, n) (fails_with (is_valid s))
+  where
+    fails_with : (b : Bool) → false ≡ (b && false)
+    fails_with true = refl
+    fails_with false = refl
+
+by_validity : (s : Site) → is_well_formed s ≡ true → no_own_import s ≡ true → is_valid s ≡ is_sound s
+unfolding is_sound
+by_validity s e n = rw (e, n) (holds_with (is_valid s))
+  where
+    holds_with : (b : Bool) → b ≡ (b && true)
+    holds_with true = refl
+    holds_with false = refl
+
+-- the record, and what its type says
+abbrev record_of : Start → State
+record_of c = c.args.s
+
+fits : (c : Start) → Fits (record_of c)
+fits c = fits_by_type (record_of c) _ c.well_formed.0.1.1
+
+shaped : (c : Start) → Shaped (site (record_of c))
+shaped c = shaped_by_type (record_of c) _ c.well_formed.0.1.1
+
+-- with the equation the meaning
+meaning : (s : Site) → Shaped s → (b : Bool) → b ≡ is_sound s → T b ↔ Sound s
+meaning s h b e = subst (λ (v : Bool). T v ↔ Sound s) (sym e) (sound_decided s h)
+
+-- ---- what each call promises, of the record
+formed-is : (c : After-are_well_formed) → c.are_well_formed.result ≡ is_well_formed (site (record_of c.before.before.before.before.before.before.before.before.before))
+formed-is c = c.are_well_formed.ensures ∙ well_formed_by_rows (record_of c.before.before.before.before.before.before.before.before.before) (fits c.before.before.before.before.before.before.before.before.before)
+
+apart-is : (c : After-are_disjoint) → c.are_disjoint.result ≡ no_own_import (site (record_of c.before.before.before.before.before.before.before.before.before.before.before.before.before))
+unfolding site
+apart-is c =
+    let s = record_of c.before.before.before.before.before.before.before.before.before.before.before.before.before in
+    c.are_disjoint.ensures ∙ disjoint_by_rows s.imports s.definitions (fits c.before.before.before.before.before.before.before.before.before.before.before.before.before).imports.long
+
+valid-is : (c : After-are_valid) → c.are_valid.result ≡ is_valid (site (record_of c.before.before.before.before.before.before.before.before.before.before.before.before.before.before.before.before.before.before.before))
+valid-is c =
+    c.are_valid.ensures ∙ valid_by_objects (record_of c.before.before.before.before.before.before.before.before.before.before.before.before.before.before.before.before.before.before.before) (shaped c.before.before.before.before.before.before.before.before.before.before.before.before.before.before.before.before.before.before.before)
+
+-- ---- what was passed
+formed : (c : Else-not-are_well_formed) → is_well_formed (site (record_of c.before.before.before.before.before.before.before.before.before.before)) ≡ true
+formed c = sym (formed-is c.before) ∙ not-false _ (ap not c.if-not-are_well_formed.false)
+
+apart : (c : Else-not-are_disjoint) → no_own_import (site (record_of c.before.before.before.before.before.before.before.before.before.before.before.before.before.before)) ≡ true
+apart c = sym (apart-is c.before) ∙ not-false _ (ap not c.if-not-are_disjoint.false)
+
+pub returns-then-not-are_well_formed : goal.returns-then-not-are_well_formed
+returns-then-not-are_well_formed c =
+    let e = ill_formed _ (sym (formed-is (goal.at.returns-then-not-are_well_formed c).After-are_well_formed) ∙ not-true _ (ap not c.if-not-are_well_formed.true)) in
+    record { equation = e; meaning = meaning _ (shaped (goal.at.returns-then-not-are_well_formed c).Start) false e }
+
+pub returns-then-not-are_disjoint : goal.returns-then-not-are_disjoint
+returns-then-not-are_disjoint c =
+    let e = own_import _ (formed (goal.at.returns-then-not-are_disjoint c).Else-not-are_well_formed) (sym (apart-is (goal.at.returns-then-not-are_disjoint c).After-are_disjoint) ∙ not-true _ (ap not c.if-not-are_disjoint.true)) in
+    record { equation = e; meaning = meaning _ (shaped (goal.at.returns-then-not-are_disjoint c).Start) false e }
+
+pub returns : goal.returns
+returns c =
+    let e = valid-is (goal.at.returns c).After-are_valid ∙ by_validity _ (formed (goal.at.returns c).Else-not-are_well_formed) (apart (goal.at.returns c).Else-not-are_disjoint) in
+    record { equation = e; meaning = meaning _ (shaped (goal.at.returns c).Start) _ e }
