@@ -11,7 +11,7 @@ ghost use Rattle.readings.specs.Readings.{seen_of, names_area};
 use state::State;
 
 // What the checks of an instruction (activator, a, b) read of the record that is given.
-#[derive(Drop)]
+#[derive(Clone, Copy)]
 pub struct Seen {
     // the activator is listed
     pub activator: bool,
