@@ -12,8 +12,7 @@ use Rattle.validity.specs.Parts.{valid_for}
 use Rattle.instructions.specs.declared.Target.TheVariants.{Import}
 use Rattle.refusals.specs.Parts.{result_checks}
 use Rattle.refusals.proofs.Alone.{alone}
-use Rattle.refusals.proofs.pair_refusal.Statement.{statement}
-use Rattle.refusals.proofs.pair_refusal.Tie as tie
+use Rattle.refusals.proofs.pair_refusal.Goals as goal
 
 module _ (t : Site) (a b : ℕ) {adds : Bool} where
   -- the number of an add, by whether the area has access
@@ -28,17 +27,14 @@ module _ (t : Site) (a b : ℕ) {adds : Bool} where
       sym (ap (λ (k : Bool). first_met (result_checks t Import k a b)) kind
       ∙ alone ((8 when false) ∷ (9 when false) ∷ (10 when false) ∷ []) [] _ tt tt ∙ ap (λ (w : Bool). cond (not w) 11 0) e)
 
-returns : tie.Need-returns
-returns c = added _ _ _ c.before.before.if1.true true (sym c.before.has_access.ensures ∙ c.if2.true)
+pub returns-then-has_access : goal.returns-then-has_access
+returns-then-has_access c = added _ _ _ c.if-adds.true true (sym c.has_access.ensures ∙ c.if-has_access.true)
 
-returns-2 : tie.Need-returns-2
-returns-2 c = added _ _ _ c.before.before.if1.true false (sym c.before.has_access.ensures ∙ c.if2.false)
+pub returns-else-has_access : goal.returns-else-has_access
+returns-else-has_access c = added _ _ _ c.if-adds.true false (sym c.has_access.ensures ∙ c.if-has_access.false)
 
-returns-3 : tie.Need-returns-3
-returns-3 c = removed _ _ _ c.before.before.if1.false true (sym c.before.is-valid-for.ensures ∙ c.if3.true)
+pub returns-then-is_valid_for : goal.returns-then-is_valid_for
+returns-then-is_valid_for c = removed _ _ _ c.if-adds.false true (sym c.is_valid_for.ensures ∙ c.if-is_valid_for.true)
 
-returns-4 : tie.Need-returns-4
-returns-4 c = removed _ _ _ c.before.before.if1.false false (sym c.before.is-valid-for.ensures ∙ c.if3.false)
-
-pub pair_refusal_spec : {M : Type 1} → statement M
-pair_refusal_spec = tie.close (tie.spec (λ c κs. tt) (λ c κs. tt) returns returns-2 returns-3 returns-4)
+pub returns-else-is_valid_for : goal.returns-else-is_valid_for
+returns-else-is_valid_for c = removed _ _ _ c.if-adds.false false (sym c.is_valid_for.ensures ∙ c.if-is_valid_for.false)

@@ -26,8 +26,8 @@ use Rattle.successors.specs.Successor.{changed, successor}
 use Rattle.refusals.specs.Refusals.{early_checks}
 use Rattle.refusals.specs.Parts.{of_object, result_checks, found_checks}
 use Rattle.refusals.proofs.Alone.{none}
-use Rattle.refusals.proofs.refusal_of.Statement.{statement}
-use Rattle.refusals.proofs.refusal_of.Tie as tie
+use Rattle.refusals.proofs.refusal_of.Goals as goal
+use Rattle.refusals.proofs.refusal_of.Goals.{After-early_refusal-early, After-look-seen, After-object_refusal-arg-then-is_of_object-3-1, Else-is_of_object, Start, Then-is_of_object}
 
 module _ (s : Site) (x : Instruction) (u a b : ℕ) {v : Seen} {r : Rule} {m : ℕ} (seen : v ≡ seen_of s u a b) (row : r ≡ rule x) (e : m ≡ first_met (early_checks v r)) where
   abbrev late : List Check
@@ -81,78 +81,39 @@ added s x u a b {r} row other kind =
     nothing (successor s x u a b) r.target a b other ∙ ap (λ (w : Bool). first_met (result_checks (successor s x u a b) r.target w a b)) (sym kind)
     ∙ ap (λ (q : Rule). first_met (result_checks (successor s x u a b) q.target q.adds a b)) row
 
--- ---- on the way
--- the start, before the arrays are lent
-abbrev begun : tie.After-look → tie.Start
-begun c = let lent = c.before.before.before.before.before in lent.before.before.before.before.before
-
-abbrev looked : tie.After-early-refusal → tie.After-look
-looked c = c.before.before
-
-returns : tie.Need-returns
+pub returns-then-early-ne0 : goal.returns-then-early-ne0
 unfolding site
-returns c =
-    let early = c.before in
-    let y = (begun (looked early)).args in
-    is_early (site y.t1) y.x y.u y.a y.b (looked early).look.ensures early.before.rule-of.ensures early.early-refusal.ensures c.if1.true
+returns-then-early-ne0 c =
+    let y = c.args in
+    is_early (site y.s) y.x y.u y.a y.b c.look-seen.ensures c.rule_of-rule.ensures c.early_refusal-early.ensures c.if-early-ne0.true
 
 -- what is known where no early check is met, and the target is told
-is-object : (c : tie.Then2) → T (of_object c.before.before.before.before.rule-of.result.target)
-is-object c = holds (sym c.before.is-of-object.ensures ∙ c.if2.true)
+is-object : (c : Then-is_of_object) → T (of_object c.rule_of-rule.result.target)
+is-object c = holds (sym c.is_of_object.ensures ∙ c.if-is_of_object.true)
 
-no-object : (c : tie.Else2) → of_object c.before.before.before.before.rule-of.result.target ≡ false
-no-object c = sym c.before.is-of-object.ensures ∙ c.if2.false
+no-object : (c : Else-is_of_object) → of_object c.rule_of-rule.result.target ≡ false
+no-object c = sym c.is_of_object.ensures ∙ c.if-is_of_object.false
 
--- the start of the lending to `object_refusal`
-abbrev asked-at : tie.After-object-refusal-arg4 → tie.Then2
-asked-at c = c.before.before.before.before.before
-
-object-refusal-requires : tie.Need-object-refusal-requires
-object-refusal-requires c κs =
-    let asked = asked-at c in
-    let start = begun (looked asked.before.before.before) in
-    let fits : Fits start.args.t1 = fits_by_type start.args.t1 _ start.good.0.1.1 in
-    (is-object asked, fits.definitions.long, fits.imports.long, fits.exports.long)
-
-returns-2 : tie.Need-returns-2
+pub returns-then-is_of_object : goal.returns-then-is_of_object
 unfolding site
-returns-2 c =
-    let asked = asked-at c.before in
-    let passed = asked.before.before in
-    let early = passed.before in
-    let row = early.before.rule-of in
-    let y = (begun (looked early)).args in
-    is_late (site y.t1) y.x y.u y.a y.b (looked early).look.ensures row.ensures early.early-refusal.ensures passed.if1.left
-    (of_object_lem y.t1 y.x y.u y.a y.b row.ensures (is-object asked) c.object-refusal.ensures)
+returns-then-is_of_object c =
+    let row = c.rule_of-rule in
+    let y = c.args in
+    is_late (site y.s) y.x y.u y.a y.b c.look-seen.ensures row.ensures c.early_refusal-early.ensures c.if-early-ne0.false
+    (of_object_lem y.s y.x y.u y.a y.b row.ensures (is-object (goal.at.returns-then-is_of_object c).Then-is_of_object) c.object_refusal.ensures)
 
 -- an add of what is no pair of an object
-returns-3 : tie.Need-returns-3
+pub returns-then-rule : goal.returns-then-rule
 unfolding site
-returns-3 c =
-    let asked = c.before in
-    let passed = asked.before.before in
-    let early = passed.before in
-    let row = early.before.rule-of in
-    let y = (begun (looked early)).args in
-    is_late (site y.t1) y.x y.u y.a y.b (looked early).look.ensures row.ensures early.early-refusal.ensures passed.if1.false
-    (added (site y.t1) y.x y.u y.a y.b row.ensures (no-object asked) c.if3.true)
+returns-then-rule c =
+    let row = c.rule_of-rule in
+    let y = c.args in
+    is_late (site y.s) y.x y.u y.a y.b c.look-seen.ensures row.ensures c.early_refusal-early.ensures c.if-early-ne0.false
+    (added (site y.s) y.x y.u y.a y.b row.ensures (no-object (goal.at.returns-then-rule c).Else-is_of_object) c.if-rule.true)
 
-area-refusal-requires : tie.Need-area-refusal-requires
-area-refusal-requires c κs =
-    let asked = c.before in
-    let row = asked.before.before.before.before.rule-of in
-    (ap (λ (q : Rule). of_object q.target) (sym row.ensures) ∙ no-object asked, ap (λ (q : Rule). q.adds) (sym row.ensures) ∙ c.if3.false)
-
-returns-4 : tie.Need-returns-4
+pub returns : goal.returns
 unfolding site
-returns-4 c =
-    let passed = c.before.before.before.before in
-    let early = passed.before in
-    let y = (begun (looked early)).args in
-    is_late (site y.t1) y.x y.u y.a y.b (looked early).look.ensures early.before.rule-of.ensures early.early-refusal.ensures passed.if1.false
-    c.area-refusal.ensures
-
-pub refusal_of_spec : {M : Type 1} → statement M
-refusal_of_spec =
-    tie.close
-    (tie.spec (λ c κs. tt) (λ c κs. tt) (λ c κs. tt) returns (λ c κs. tt) object-refusal-requires returns-2 returns-3 area-refusal-requires returns-4)
+returns c =
+    let y = c.args in
+    is_late (site y.s) y.x y.u y.a y.b c.look-seen.ensures c.rule_of-rule.ensures c.early_refusal-early.ensures c.if-early-ne0.false
+    c.area_refusal.ensures
