@@ -8,8 +8,6 @@ use mathlib.Core.Bool.{Bool, true, false, not, cond}
 use mathlib.Core.Logic.{inl, inr}
 use mathlib.Core.List.{[], ◌∷◌, ◌++◌}
 use native.Mathlib.Omega.{arith}
-use denote.Enum.Declared.{tag_of}
-use types.Run.{OneOf}
 use lib.Dec.{eqb}
 use borrow.Author.Tests.{eq-eqb, ne_eqb}
 use Rattle.state.specs.Site.{Site, Shaped, verdict}
@@ -31,9 +29,8 @@ use Rattle.state.proofs.Checks.{met, passed}
 use Rattle.refusals.proofs.Late.{found_by_result}
 
 -- what fits no instruction, the second or third case, has a number other than 0
-misfit_some : (d : Decoded) → OneOf (1 ∷ 2 ∷ []) (tag_of the_type d) → eqb (decoded_number d) 0 ≡ false
-misfit_some (Fits x) (inl e) = absurd (omega arith)
-misfit_some (Fits x) (inr e) = absurd (omega arith)
+misfit_some : (d : Decoded) → ((x : Instruction) → d ≡ Fits x → ⊥) → eqb (decoded_number d) 0 ≡ false
+misfit_some (Fits x) k = absurd (k x refl)
 misfit_some NoCode k = refl
 misfit_some OutOfRange k = refl
 
@@ -60,7 +57,7 @@ module _ (s : Site) (bytes : Bytes) where
   unfolding step_refusal
   by_decoded sound decoded = ap number decoded ∙ sym (passed _ _ sound)
 
-  pub misfit_number : not (is_sound s) ≡ false → (d : Decoded) → d ≡ decode_of bytes → OneOf (1 ∷ 2 ∷ []) (tag_of the_type d)
+  pub misfit_number : not (is_sound s) ≡ false → (d : Decoded) → d ≡ decode_of bytes → ((x : Instruction) → d ≡ Fits x → ⊥)
       → {n : ℕ} → n ≡ decoded_number d → (n ≡ step_refusal s bytes) × (n ≡ 0 → ⊥)
   misfit_number sound d decoded k e =
       let other = misfit_some d k in (
