@@ -12,7 +12,7 @@ use instructions::Decoded;
 use state::State;
 
 // What comes with a call: who gives the instructions, and the numbers that the recipe leaves open.
-#[derive(Drop)]
+#[derive(Clone, Copy)]
 pub struct Call {
     pub activator: u8,
     pub parameters: [u8; 4],
@@ -110,7 +110,7 @@ fn is_misformed(recipe: &[u8]) -> bool
 }
 
 // The four bytes of an instruction.
-#[derive(Drop)]
+#[derive(Clone, Copy)]
 struct FourBytes {
     code: u8,
     activator: u8,
