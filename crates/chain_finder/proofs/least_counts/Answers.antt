@@ -13,8 +13,7 @@ use Rattle.access.specs.Lending.{lending_of}
 use Rattle.access.specs.Answer.{longest, answer, answer_number, counts_within, least_counts}
 use Rattle.search.specs.Rounds.{move_by}
 use Rattle.search.proofs.Laws.{same_answer}
-use Rattle.chain_finder.proofs.least_counts.Statement.{statement}
-use Rattle.chain_finder.proofs.least_counts.Tie as tie
+use Rattle.chain_finder.proofs.least_counts.Goals as goal
 
 module _ (ds st im ex : Rows) (o : ℕ) where
   same_counts : counts_within (bit (get_or ds o 0)) (move_by (cells_of st) (transpose (cells_of st)) (bit (get_or im o 0)) (bit (get_or ex o 0))) longest
@@ -28,12 +27,6 @@ module _ (ds st im ex : Rows) (o : ℕ) where
       → counts ≡ least_counts (lending_of (cells_of ds) (cells_of st) (cells_of im) (cells_of ex) o)
   counted defined imported exported counts d m e p = p ∙ rw (d, m, e) same_counts
 
-returns : tie.Need-returns
+pub returns : goal.returns
 returns c =
-    let exported = c.before in
-    let imported = exported.before.before in
-    let defined = imported.before.before in
-    counted _ _ _ _ _ _ _ _ _ defined.row_of.ensures imported.row-of2.ensures exported.row-of3.ensures c.Counts-of.ensures
-
-pub least_counts_spec : {M : Type 1} → statement M
-least_counts_spec = tie.close (tie.spec (λ c κs. tt) (λ c κs. tt) (λ c κs. tt) (λ c κs. tt) returns)
+    counted _ _ _ _ _ _ _ _ _ c.row_of-defined.ensures c.row_of-imported.ensures c.row_of-exported.ensures c.counts_of.ensures
