@@ -52,7 +52,7 @@ pub fn part_from(file: &[u8], from: usize, len: usize) -> &[u8]
 }
 
 // The six tables, in their order in the file.
-#[derive(Drop)]
+#[derive(Clone, Copy)]
 pub enum Table {
     Owners,
     Definitions,

@@ -1,11 +1,9 @@
 -- `label_tables::all_ascend` meets its contract. The loop's invariant: `ascends` says whether the first k areas are each below the next.
 -- Assumes nothing.
-use Prim.Native.Nat.{◌-◌, ◌≤◌}
-use mathlib.Core.Path.{refl, ◌≡◌, sym}
+use mathlib.Core.Path.{refl, sym}
 use native.Mathlib.Omega.{arith}
-use Rattle.state.specs.Below.{each_below}
 use Rattle.state.proofs.Below.{each_none, each_step, each_end}
-use Rattle.label_tables.specs.Labels.{label_ascends, labels_ascend}
+use Rattle.label_tables.specs.Labels.{labels_ascend}
 use Rattle.label_tables.proofs.all_ascend.Goals as goal
 
 pub loop-k-init : goal.loop-k-init

@@ -2,12 +2,9 @@
 -- Assumes nothing.
 use mathlib.Core.Bool.{not}
 use mathlib.Core.Path.{ap}
-use Prim.Native.Nat.{◌-◌, ◌≤◌}
-use mathlib.Core.Path.{◌≡◌, sym, ◌∙◌}
-use mathlib.Core.Bool.{true}
+use mathlib.Core.Path.{sym, ◌∙◌}
 use native.Mathlib.Omega.{arith}
 use borrow.Author.Tests.{not-true, not-false}
-use Rattle.state.specs.Below.{each_below}
 use Rattle.state.proofs.Below.{each_none, each_goes, each_stop, each_done}
 use Rattle.label_tables.specs.Labels.{label_fits, labels_fit}
 use Rattle.label_tables.proofs.all_fit.Goals as goal

@@ -1,13 +1,10 @@
 -- `label_tables::all_fit` meets its contract. The loop's invariant: each of the first k entries is in range.
 -- Assumes nothing.
 use Prim.Native.Nat.{◌-◌, ◌≤◌}
-use mathlib.Core.Path.{◌≡◌, sym, ◌∙◌}
+use mathlib.Core.Path.{◌≡◌}
 use mathlib.Core.Bool.{true}
-use native.Mathlib.Omega.{arith}
-use borrow.Author.Tests.{not-true, not-false}
 use Rattle.state.specs.Below.{each_below}
-use Rattle.state.proofs.Below.{each_none, each_goes, each_stop, each_done}
-use Rattle.label_tables.specs.Labels.{label_fits, labels_fit}
+use Rattle.label_tables.specs.Labels.{label_fits}
 use Rattle.label_tables.proofs.all_fit.Given as goal
 
 abbrev pub invariant-loop-k : goal.invariant-loop-k

@@ -1,13 +1,8 @@
 -- `label_tables::text_fits` meets its contract. The loop's invariant: what fits so far is whether each of the first i bytes does.
 -- Assumes nothing.
 use Prim.Native.Nat.{◌-◌, ◌≤◌}
-use mathlib.Core.Path.{◌≡◌, refl, sym}
-use mathlib.Core.Logic.{⊎_elim}
-use mathlib.Core.Bool.{◌&&◌}
-use native.Mathlib.Omega.{arith}
-use borrow.Author.Tests.{lt-ltb, le-ltb}
+use mathlib.Core.Path.{◌≡◌}
 use Rattle.state.specs.Below.{each_below}
-use Rattle.state.proofs.Below.{each_none, each_step, each_end}
 use Rattle.label_tables.specs.Texts.{text_fits}
 use Rattle.label_tables.proofs.text_fits.Given as goal
 

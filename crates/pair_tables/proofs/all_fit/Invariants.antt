@@ -1,14 +1,9 @@
 -- `pair_tables::all_fit` meets its contract. The loop's invariant: what fits so far is whether each of the first k pairs does.
 -- Assumes nothing.
-use Prim.Native.Nat.{ℕ, ◌+◌, ◌-◌, ◌≤◌}
-use mathlib.Core.Path.{◌≡◌, sym, ap, ap₂, ◌∙◌}
-use mathlib.Core.Bool.{Bool, ◌&&◌}
-use mathlib.Core.List.{List}
-use native.Mathlib.Omega.{arith}
+use Prim.Native.Nat.{◌-◌, ◌≤◌}
+use mathlib.Core.Path.{◌≡◌}
 use Rattle.state.specs.Below.{each_below}
-use Rattle.state.proofs.Below.{each_none, each_add}
-use Rattle.pair_tables.specs.Pairs.{pair_count, pair_fits, pairs_fit}
-use Rattle.pair_tables.specs.Runs.{pair_fits_from}
+use Rattle.pair_tables.specs.Pairs.{pair_fits}
 use Rattle.pair_tables.proofs.all_fit.Given as goal
 
 abbrev pub invariant-loop-k : goal.invariant-loop-k

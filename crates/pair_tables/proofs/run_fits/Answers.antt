@@ -1,11 +1,8 @@
 -- `pair_tables::run_fits` meets its contract. The loop's invariant: what fits so far is whether each of the first i pairs does.
 -- Assumes nothing.
-use Prim.Native.Nat.{◌-◌, ◌≤◌}
-use mathlib.Core.Path.{◌≡◌, refl, sym}
+use mathlib.Core.Path.{refl, sym}
 use native.Mathlib.Omega.{arith}
-use Rattle.state.specs.Below.{each_below}
-use Rattle.state.proofs.Below.{each_none, each_step, each_end}
-use Rattle.pair_tables.specs.Runs.{pair_fits_from}
+use Rattle.state.proofs.Below.{each_none, each_step}
 use Rattle.pair_tables.proofs.run_fits.Goals as goal
 
 pub loop-i-init : goal.loop-i-init

@@ -10,8 +10,7 @@ use Rattle.state.specs.Stands.{site}
 use Rattle.relations.specs.Relations.{firsts, seconds}
 use Rattle.pair_tables.specs.Pairs.{with_pairs}
 use Rattle.site_tables.specs.Tables.{relation_of, state_by, relations_of}
-use Rattle.site_tables.proofs.state_of.Statement.{statement}
-use Rattle.site_tables.proofs.state_of.Tie as tie
+use Rattle.site_tables.proofs.state_of.Goals as goal
 
 -- a relation of the empty record, filled from its table
 filled : (r : Relation) {s : Site} {c : Pairs} (table : List ℕ) → s ≡ empty → c ≡ with_pairs table (cells s r) → c ≡ relation_of r table
@@ -26,29 +25,15 @@ listed relation us ar ob ow de st im ex i =
     site_of ((us ∙ ap (firsts 32) ow) i) ((ar ∙ ap seconds ow) i) ((ob ∙ ap (firsts 64) de) i) (ow i) (de i) (st i) (im i)
     (ex i)
 
-returns : tie.Need-returns
+pub returns : goal.returns
 unfolding site
 returns c =
-    let areas-at = c.before.before.before.before in
-    let users-at = areas-at.before.before.before.before in
-    let exports_at = users-at.before.before.before.before in
-    let imports_at = exports_at.before.before in
-    let structure_at = imports_at.before.before in
-    let definitions_at = structure_at.before.before in
-    let owners-at = definitions_at.before.before in
-    let begun = owners-at.before.before in
-    let none = begun.empty.ensures in
-    let x = begun.before.before.before.before.before.before.args in
+    let none = c.empty-s.ensures in
+    let x = c.args in
     listed (relations_of x.owners.now x.definitions.now x.structure.now x.imports.now x.exports.now)
-    users-at.firsts-32.ensures areas-at.seconds.ensures c.firsts-64.ensures
-    (filled owner x.owners.now none owners-at.fill-32.ensures)
-    (filled definition x.definitions.now none definitions_at.fill-64.ensures)
-    (filled structure x.structure.now none structure_at.fill-322.ensures)
-    (filled import x.imports.now none imports_at.fill-642.ensures)
-    (filled export x.exports.now none exports_at.fill-643.ensures)
-
-pub state_of_spec : {M : Type 1} → statement M
-state_of_spec =
-    tie.close
-    (tie.spec (λ c κs. tt) (λ c κs. tt) (λ c κs. tt) (λ c κs. tt) (λ c κs. tt) (λ c κs. tt) (λ c κs. tt) (λ c κs. tt)
-    (λ c κs. tt) returns)
+    c.firsts_32-users.ensures c.seconds-areas.ensures c.firsts_64-objects.ensures
+    (filled owner x.owners.now none c.fill_32.ensures)
+    (filled definition x.definitions.now none c.fill_64.ensures)
+    (filled structure x.structure.now none c.fill_32-2.ensures)
+    (filled import x.imports.now none c.fill_64-2.ensures)
+    (filled export x.exports.now none c.fill_64-3.ensures)
