@@ -32,8 +32,9 @@ new-layer c =
 
 pub returns-then-is_empty : goal.returns-then-is_empty
 returns-then-is_empty c =
+    let at = goal.at.returns-then-is_empty c in
     let inv = c.loop-n.invariant in
-    ended_counts _ _ _ _ _ inv.0 (new-layer (goal.at.returns-then-is_empty c).After-difference-new) inv.3 (sym c.is_empty.ensures ∙ c.if-is_empty.true)
+    ended_counts _ _ _ _ _ inv.0 (new-layer at.After-difference-new) inv.3 (sym c.is_empty.ensures ∙ c.if-is_empty.true)
 
 pub count_as-requires-in-loop-n : goal.count_as-requires-in-loop-n
 count_as-requires-in-loop-n c =
@@ -46,11 +47,12 @@ loop-n-smaller c = omega arith
 pub loop-n-preserved : goal.loop-n-preserved
 unfolding longest
 loop-n-preserved c =
+    let at = goal.at.loop-n-preserved c in
     let inv = c.loop-n.invariant in (
       omega arith,
-      new-layer (goal.at.loop-n-preserved c).After-difference-new ∙ ap (layer_row _ _) (sym (add-one _)),
-      reach _ _ _ _ _ _ inv.2 (new-layer (goal.at.loop-n-preserved c).After-difference-new) c.union-all.ensures,
-      next_counts _ _ _ _ _ _ c.loop-n-test.true (new-layer (goal.at.loop-n-preserved c).After-difference-new) inv.3 c.count_as-in-loop-n.ensures,
+      new-layer at.After-difference-new ∙ ap (layer_row _ _) (sym (add-one _)),
+      reach _ _ _ _ _ _ inv.2 (new-layer at.After-difference-new) c.union-all.ensures,
+      next_counts _ _ _ _ _ _ c.loop-n-test.true (new-layer at.After-difference-new) inv.3 c.count_as-in-loop-n.ensures,
     )
 
 pub returns : goal.returns

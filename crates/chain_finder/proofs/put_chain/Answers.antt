@@ -1,8 +1,8 @@
 -- `chain_finder::put_chain` meets its contract. The loop's invariant: the rows up to number n have the areas from which so many steps lead to the area,
 -- no area that defines the object is in one before row n, and nothing is written.
 -- Assumes nothing.
-use mathlib.Core.Bool.{not}
 use Prim.Native.Nat.{ℕ}
+use mathlib.Core.Bool.{not}
 use mathlib.Core.Path.{◌≡◌, refl, ap, ◌∙◌}
 use mathlib.Core.List.{List}
 use native.Mathlib.Omega.{arith}

@@ -5,6 +5,7 @@ use mathlib.Core.Path.{◌≡◌, sym, ap, ◌∙◌}
 use mathlib.Core.Bool.{Bool, false, ◌&&◌}
 use mathlib.Core.List.{List}
 use borrow.Author.Tests.{ne_eqb}
+use borrow.Author.Rules.{rules}
 use lib.ListN.{length}
 use Rattle.state.specs.Below.{each_below}
 use Rattle.state.specs.Cells.{Members, Pairs}
@@ -38,4 +39,4 @@ returns c =
     let bytes = c.args.bytes.now in
     by_fields bytes c.rows_1.ensures c.rows_1-2.ensures c.rows_2.ensures c.rows_32.ensures
     c.rows_64.ensures c.rows_32-2.ensures c.rows_64-2.ensures c.rows_64-3.ensures
-    ∙ sym (record_state bytes (is_true (is_record bytes) (every_string bytes c.if-bytes-ne-SIZE.false (λ k. (c.shared_slice_known-1.given k).fits))))
+    ∙ sym (record_state bytes (is_true (is_record bytes) (every_string bytes c.if-bytes-ne-SIZE.false (λ k. search rules))))
