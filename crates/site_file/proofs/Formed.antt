@@ -6,7 +6,7 @@ use mathlib.Core.Bool.{Bool, true, false, ◌&&◌, ◌||◌, not}
 use mathlib.Core.List.{List}
 use lib.Dec.{T}
 use Rattle.state.specs.Walk.{some_pair}
-use Rattle.state.specs.Site.{area, object, listed, Shaped}
+use Rattle.state.specs.Site.{area, object, Shaped}
 use Rattle.state.specs.Site.{Site}
 use Rattle.state.proofs.Bools.{is_false, not_so, same_test}
 use Rattle.state.proofs.Laws.{some_pair_lem}

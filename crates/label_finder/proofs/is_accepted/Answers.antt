@@ -6,15 +6,11 @@ use mathlib.Core.List.{List}
 use lib.Dec.{eqb}
 use Rattle.site_file.specs.Reading.{file_refusal, read_of}
 use Rattle.state.specs.Site.{Verdict}
-use Rattle.label_finder.proofs.is_accepted.Statement.{statement}
-use Rattle.label_finder.proofs.is_accepted.Tie as tie
+use Rattle.label_finder.proofs.is_accepted.Goals as goal
 
 refused : (file : List ℕ) {r : Verdict} → r ≡ read_of file → eqb r.refusal 0 ≡ eqb (file_refusal file) 0
 unfolding read_of
 refused file e = ap (λ (x : Verdict). eqb x.refusal 0) e
 
-returns : tie.Need-returns
-returns c = refused _ c.before.read.ensures.0
-
-pub is_accepted_spec : {M : Type 1} → statement M
-is_accepted_spec = tie.close (tie.spec (λ c κs. tt) returns)
+pub returns : goal.returns
+returns c = refused _ c.read-reading.ensures.equation

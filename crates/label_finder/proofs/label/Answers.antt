@@ -9,8 +9,7 @@ use Rattle.site_format.specs.Format.{behind}
 use Rattle.label_finder.specs.Finder.{text_at, place_of, label_text}
 use Rattle.label_finder.specs.declared.Place.{Place}
 use Rattle.label_finder.proofs.Laws.{label_inside}
-use Rattle.label_finder.proofs.label.Statement.{statement}
-use Rattle.label_finder.proofs.label.Tie as tie
+use Rattle.label_finder.proofs.label.Goals as goal
 
 abbrev start : Place → ℕ
 start p = p.at
@@ -26,16 +25,7 @@ placed file a front p e b at =
     let inside : min p.at (length file) ≡ text_at file a = omega (arith, label_inside file a, starts) in
     (b ∙ ap₂ (λ (n m : ℕ). take n (drop m file)) (ap size e) starts, at ∙ ap (behind front) inside)
 
-cast-part-from : tie.Need-overflow-cast-part-from
-cast-part-from c = omega arith
-
-cast-part-from-2 : tie.Need-overflow-cast-part-from-2
-cast-part-from-2 c = omega arith
-
-returns : tie.Need-returns
-returns c = placed _ _ _ _ c.before.before.before.label-place.ensures c.part_from.ensures.0 c.part_from.ensures.1
-
-pub label_spec : {M : Type 1} → statement M
-label_spec =
-    tie.close
-    (tie.spec (λ c κs. tt) cast-part-from cast-part-from-2 (λ c κs. tt) returns)
+pub returns : goal.returns
+returns c =
+    let p = placed _ _ _ _ c.label_place-place.ensures c.part_from.ensures.bytes c.part_from.ensures.place in
+    record { bytes = p.0; place = p.1 }

@@ -13,8 +13,8 @@ use Rattle.site_format.specs.Format.{labels, part}
 use Rattle.site_file.specs.Reading.{state_in, no_owner, names_unlisted, defined_twice}
 use Rattle.site_file.proofs.Held.{Derived, derived, shaped}
 use Rattle.site_file.proofs.Formed.{by_record, by_labels}
-use Rattle.site_file.proofs.state_refusal.Statement.{statement}
-use Rattle.site_file.proofs.state_refusal.Tie as tie
+use Rattle.site_file.proofs.state_refusal.Goals as goal
+use Rattle.site_file.proofs.state_refusal.Goals.{After-labels_listed}
 
 -- 28 from what was told of the state that a file holds
 module _ (s : Site) (file : List ℕ) (held : s ≡ state_in file) where
@@ -34,19 +34,17 @@ module _ (s : Site) (file : List ℕ) (held : s ≡ state_in file) where
   labelled v e k t = by_labels s lists shape (part file labels) v e (k ∙ ap (labels_listed s.areas) t)
 
 -- 28, where the record is well-formed: the labels decide
-by-listed : (c : tie.After-labels-listed) (v : Bool) → not c.labels-listed.result ≡ v
-    → let start = c.before.before.before.before.before in
-    condition (site start.args.s) start.args.file.now start.requires ≡ v
+by-listed : (c : After-labels_listed) (v : Bool) → not c.labels_listed.result ≡ v
+    → condition (site c.args.s) c.args.file.now c.requires ≡ v
 by-listed c v e =
-    let formed = c.before.before in
-    labelled _ _ formed.before.before.before.requires v formed.before.is-well-formed.ensures
-    c.labels-listed.ensures c.before.labels.ensures formed.if1.false e
+    labelled _ _ c.requires v c.is_well_formed.ensures
+    c.labels_listed.ensures c.labels.ensures (ap not c.if-not-is_well_formed.false) e
 
-returns : tie.Need-returns
-returns c = sym (met _ _ (ill_formed _ _ c.before.before.before.requires c.before.is-well-formed.ensures c.if1.true))
+pub returns-then-not-is_well_formed : goal.returns-then-not-is_well_formed
+returns-then-not-is_well_formed c = sym (met _ _ (ill_formed _ _ c.requires c.is_well_formed.ensures (ap not c.if-not-is_well_formed.true)))
 
-returns-2 : tie.Need-returns-2
-returns-2 c = sym (met _ _ (by-listed c.before true c.if2.true))
+pub returns-then-not-labels_listed : goal.returns-then-not-labels_listed
+returns-then-not-labels_listed c = sym (met _ _ (by-listed (goal.at.returns-then-not-labels_listed c).After-labels_listed true (ap not c.if-not-labels_listed.true)))
 
 -- 29, from what was told of the state
 by_entries : (s : Site) {valid no_own : Bool} (v w : Bool) → valid ≡ is_valid s → no_own ≡ no_own_import s
@@ -54,27 +52,17 @@ by_entries : (s : Site) {valid no_own : Bool} (v w : Bool) → valid ≡ is_vali
 by_entries s v w e k n m = ap₂ ◌||◌ (sym (ap not e) ∙ n) (sym (ap not k) ∙ m)
 
 -- past 28, validity decides 29, and behind it the imports
-returns-3 : tie.Need-returns-3
-returns-3 c =
-    let listed = c.before.before in
-    sym (passed _ _ (by-listed listed.before false listed.if2.false) ∙ met _ _ (by_entries _ true _ c.before.is-valid.ensures.0 refl c.if3.true refl))
+pub returns-then-not-is_valid : goal.returns-then-not-is_valid
+returns-then-not-is_valid c =
+    sym (passed _ _ (by-listed (goal.at.returns-then-not-is_valid c).After-labels_listed false (ap not c.if-not-labels_listed.false)) ∙ met _ _ (by_entries _ true _ c.is_valid.ensures.equation refl (ap not c.if-not-is_valid.true) refl))
 
-returns-4 : tie.Need-returns-4
-returns-4 c =
-    let valid = c.before.before in
-    let listed = valid.before.before in
-    sym (passed _ _ (by-listed listed.before false listed.if2.false)
-    ∙ met _ _ (by_entries _ false true valid.before.is-valid.ensures.0 c.before.has-no-own-import.ensures.0 valid.if3.false c.if4.true))
+pub returns-then-not-has_no_own_import : goal.returns-then-not-has_no_own_import
+returns-then-not-has_no_own_import c =
+    sym (passed _ _ (by-listed (goal.at.returns-then-not-has_no_own_import c).After-labels_listed false (ap not c.if-not-labels_listed.false))
+    ∙ met _ _ (by_entries _ false true c.is_valid.ensures.equation c.has_no_own_import.ensures.equation (ap not c.if-not-is_valid.false) (ap not c.if-not-has_no_own_import.true)))
 
-returns-5 : tie.Need-returns-5
-returns-5 c =
-    let valid = c.before.before in
-    let listed = valid.before.before in
-    sym (passed _ _ (by-listed listed.before false listed.if2.false)
-    ∙ passed _ _ (by_entries _ false false valid.before.is-valid.ensures.0 c.before.has-no-own-import.ensures.0 valid.if3.false c.if4.false)
+pub returns : goal.returns
+returns c =
+    sym (passed _ _ (by-listed (goal.at.returns c).After-labels_listed false (ap not c.if-not-labels_listed.false))
+    ∙ passed _ _ (by_entries _ false false c.is_valid.ensures.equation c.has_no_own_import.ensures.equation (ap not c.if-not-is_valid.false) (ap not c.if-not-has_no_own_import.false))
     ∙ none_met)
-
-pub state_refusal_spec : {M : Type 1} → statement M
-state_refusal_spec =
-    tie.close
-    (tie.spec (λ c κs. tt) returns (λ c κs. tt) (λ c κs. tt) returns-2 (λ c κs. tt) returns-3 (λ c κs. tt) returns-4 returns-5)
