@@ -5,7 +5,6 @@ use mathlib.Core.Path.{◌≡◌, refl, sym, ap, ◌∙◌}
 use mathlib.Core.Bool.{Bool, true, false, ◌&&◌, not}
 use mathlib.Core.List.{List}
 use native.Mathlib.Omega.{arith}
-use borrow.Author.Rules.{rules}
 use borrow.Author.Tests.{lt-ltb, le-ltb}
 use lib.Dec.{ltb, ltb→lt}
 use lib.ListN.{length}
@@ -26,8 +25,8 @@ use Rattle.reasons.specs.Explanation.{reason_bytes, explain_refusals, explain_re
 use Rattle.reasons.specs.declared.Explanation.{Explanation}
 use Rattle.reasons.specs.declared.Explanation.TheVariants.{Unexplained}
 use Rattle.reasons.proofs.Laws.{refused_so, explained_so, reason_fits, number_is_first}
-use Rattle.explain.proofs.explain.Statement.{statement}
-use Rattle.explain.proofs.explain.Tie as tie
+use Rattle.explain.proofs.explain.Goals as goal
+use Rattle.explain.proofs.explain.Goals.{After-are_listed, Else-not-a-b, Else-not-is_sound, Then-not-is_sound}
 
 -- what is promised
 abbrev Promised : Site → (a b : ℕ) (before : List ℕ) (r : Explanation) (after : List ℕ) → Type 0
@@ -69,69 +68,50 @@ module _ (s : Site) (a b : ℕ) (buffer : List ℕ) where
         )
 
 -- ---- what is known on the way
-unsound : (c : tie.Then2) → not (is_sound (site c.before.before.before.before.args.t1)) ≡ true
-unsound c = sym (ap not c.before.is-sound.ensures.0) ∙ c.if2.true
+unsound : (c : Then-not-is_sound) → not (is_sound (site c.args.s)) ≡ true
+unsound c = sym (ap not c.is_sound.ensures.equation) ∙ (ap not c.if-not-is_sound.true)
 
-sound : (c : tie.Else2) → not (is_sound (site c.before.before.before.before.args.t1)) ≡ false
-sound c = sym (ap not c.before.is-sound.ensures.0) ∙ c.if2.false
+sound : (c : Else-not-is_sound) → not (is_sound (site c.args.s)) ≡ false
+sound c = sym (ap not c.is_sound.ensures.equation) ∙ (ap not c.if-not-is_sound.false)
 
-ranged : (c : tie.Else3) → let x = c.before.before.before.before.before.args in (x.a < 32) × (x.b < 64)
+ranged : (c : Else-not-a-b) → let x = c.args in (x.a < 32) × (x.b < 64)
 ranged c =
-    let x = c.before.before.before.before.before.args in
-    let both = so (ltb x.a 32 && ltb x.b 64) c.if3.false in (
+    let x = c.args in
+    let both = so (ltb x.a 32 && ltb x.b 64) (ap not c.if-not-a-b.false) in (
       ltb→lt x.a 32 (and_left (ltb x.a 32) (ltb x.b 64) both),
       ltb→lt x.b 64 (and_right (ltb x.a 32) (ltb x.b 64) both),
     )
 
-unlisted : (c : tie.After-are-listed) (v : Bool) → not c.are-listed.result ≡ v
-    → let x = c.before.before.before.before.before.before.args in not (listed (site x.t1) area x.a && listed (site x.t1) object x.b) ≡ v
-unlisted c v e = sym (ap not c.are-listed.ensures) ∙ e
+unlisted : (c : After-are_listed) (v : Bool) → not c.are_listed.result ≡ v
+    → let x = c.args in not (listed (site x.s) area x.a && listed (site x.s) object x.b) ≡ v
+unlisted c v e = sym (ap not c.are_listed.ensures) ∙ e
 
 -- ---- what is returned
-returns : tie.Need-returns
-returns c = refusing _ _ _ _ 31 (met _ _ (lt-ltb _ 32 c.if1.true)) (λ z. omega arith)
+pub returns-then-buffer-lt-ROOM : goal.returns-then-buffer-lt-ROOM
+returns-then-buffer-lt-ROOM c =
+    let p = refusing _ _ _ _ 31 (met _ _ (lt-ltb _ 32 c.if-buffer-lt-ROOM.true)) (λ z. omega arith) in
+    record { equation = p.0; number = p.1.0; bytes = p.1.1.0; buffer = p.1.1.1 }
 
-returns-2 : tie.Need-returns-2
-returns-2 c = asking _ _ _ _ c.before.before.if1.false 12 (met _ _ (unsound c)) (λ z. omega arith)
+pub returns-then-not-is_sound : goal.returns-then-not-is_sound
+returns-then-not-is_sound c =
+    let p = asking _ _ _ _ c.if-buffer-lt-ROOM.false 12 (met _ _ (unsound (goal.at.returns-then-not-is_sound c).Then-not-is_sound)) (λ z. omega arith) in
+    record { equation = p.0; number = p.1.0; bytes = p.1.1.0; buffer = p.1.1.1 }
 
-cast-if3 : tie.Need-overflow-cast-if3
-cast-if3 c = omega arith
+pub returns-then-not-a-b : goal.returns-then-not-a-b
+returns-then-not-a-b c =
+    let p = asking _ _ _ _ c.if-buffer-lt-ROOM.false 2 (passed _ _ (sound (goal.at.returns-then-not-a-b c).Else-not-is_sound) ∙ met _ _ (ap not c.if-not-a-b.true)) (λ z. omega arith) in
+    record { equation = p.0; number = p.1.0; bytes = p.1.1.0; buffer = p.1.1.1 }
 
-cast-if3-2 : tie.Need-overflow-cast-if3-2
-cast-if3-2 c = omega arith
+pub returns-then-not-are_listed : goal.returns-then-not-are_listed
+returns-then-not-are_listed c =
+    let p = asking _ _ _ _ c.if-buffer-lt-ROOM.false 4
+    (passed _ _ (sound (goal.at.returns-then-not-are_listed c).Else-not-is_sound) ∙ passed _ _ (ap not c.if-not-a-b.false) ∙ met _ _ (unlisted (goal.at.returns-then-not-are_listed c).After-are_listed true (ap not c.if-not-are_listed.true))) (λ z. omega arith) in
+    record { equation = p.0; number = p.1.0; bytes = p.1.1.0; buffer = p.1.1.1 }
 
-returns-3 : tie.Need-returns-3
-returns-3 c =
-    asking _ _ _ _ c.before.before.before.if1.false 2 (passed _ _ (sound c.before) ∙ met _ _ c.if3.true) (λ z. omega arith)
-
-cast-area : tie.Need-overflow-cast-area
-cast-area c = omega (arith, (ranged c).0)
-
-cast-object : tie.Need-overflow-cast-object
-cast-object c = omega (arith, (ranged c).1)
-
-returns-4 : tie.Need-returns-4
-returns-4 c =
-    let is_in_range = c.before.before in
-    asking _ _ _ _ is_in_range.before.before.before.if1.false 4
-    (passed _ _ (sound is_in_range.before) ∙ passed _ _ is_in_range.if3.false ∙ met _ _ (unlisted c.before true c.if4.true)) (λ z. omega arith)
-
-same_length : tie.Need-same-length
-same_length c = search rules
-
-returns-5 : tie.Need-returns-5
+pub returns : goal.returns
 unfolding site
-returns-5 c =
-    let wrote = c.before.before in
-    let listed = wrote.before.before.before.before.before.before.before in
-    let is_in_range = listed.before.before in
-    let roomy = is_in_range.before.before.before in
-    answering (site roomy.before.before.args.t1) _ _ _ roomy.if1.false
-    (passed _ _ (sound is_in_range.before) ∙ passed _ _ is_in_range.if3.false ∙ passed _ _ (unlisted listed.before false listed.if4.false) ∙ none_met)
-    _ _ wrote.put-reason.ensures.0 wrote.put-reason.ensures.1
-
-pub explain_spec : {M : Type 1} → statement M
-explain_spec =
-    tie.close
-    (tie.spec returns (λ c κs. tt) returns-2 cast-if3 cast-if3-2 returns-3 cast-area cast-object (λ c κs. tt) returns-4 (λ c κs. tt) same_length
-    returns-5)
+returns c =
+    let p = answering (site c.args.s) _ _ _ c.if-buffer-lt-ROOM.false
+    (passed _ _ (sound (goal.at.returns c).Else-not-is_sound) ∙ passed _ _ (ap not c.if-not-a-b.false) ∙ passed _ _ (unlisted (goal.at.returns c).After-are_listed false (ap not c.if-not-are_listed.false)) ∙ none_met)
+    _ _ c.put_reason.ensures.equation c.put_reason.ensures.buffer in
+    record { equation = p.0; number = p.1.0; bytes = p.1.1.0; buffer = p.1.1.1 }

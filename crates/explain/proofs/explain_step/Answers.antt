@@ -4,7 +4,6 @@ use Prim.Native.Nat.{ℕ}
 use mathlib.Core.Path.{◌≡◌, refl, sym, ap, subst, ◌∙◌}
 use mathlib.Core.Bool.{Bool, true, false, ◌&&◌, not, cond}
 use native.Mathlib.Omega.{arith}
-use borrow.Author.Rules.{rules}
 use borrow.Author.Tests.{ne_eqb}
 use lib.Dec.{T, ltb}
 use Rattle.state.specs.Site.{Site, user, area, limit}
@@ -34,8 +33,8 @@ use Rattle.reasons.specs.declared.Lost.TheVariants.{NoneLost}
 use Rattle.reasons.specs.declared.StepReason.{StepReason}
 use Rattle.reasons.specs.Lost.{is_lost, first_object, first_area, first_lost, reason, reason_for, step_reason_of}
 use Rattle.reasons.proofs.Laws.{reason_so, eleven_removes}
-use Rattle.explain.proofs.explain_step.Statement.{statement}
-use Rattle.explain.proofs.explain_step.Tie as tie
+use Rattle.explain.proofs.explain_step.Goals as goal
+use Rattle.explain.proofs.explain_step.Goals.{After-refusal_of-refusal, Else-not-is_sound, Start, Then-not-is_sound}
 
 -- ---- the reason, by its number
 no_pair : (s : Site) (x : Bytes) (n : ℕ) {r : StepReason} → r ≡ reason n NoneLost → n ≡ step_refusal s x → (n ≡ 11 → ⊥) → r ≡ step_reason_of s x
@@ -77,11 +76,11 @@ unfolding site
 valid_relations s v = record { imported = v.imported; exported = v.exported }
 
 -- ---- what is known on the way
-unsound : (c : tie.Then1) → not (is_sound (site c.before.before.args.t1)) ≡ true
-unsound c = sym (ap not c.before.is-sound.ensures.0) ∙ c.if1.true
+unsound : (c : Then-not-is_sound) → not (is_sound (site c.args.s)) ≡ true
+unsound c = sym (ap not c.is_sound.ensures.equation) ∙ (ap not c.if-not-is_sound.true)
 
-sound : (c : tie.Else1) → not (is_sound (site c.before.before.args.t1)) ≡ false
-sound c = sym (ap not c.before.is-sound.ensures.0) ∙ c.if1.false
+sound : (c : Else-not-is_sound) → not (is_sound (site c.args.s)) ≡ false
+sound c = sym (ap not c.is_sound.ensures.equation) ∙ (ap not c.if-not-is_sound.false)
 
 -- bytes that fit no instruction have another number
 misfit_other : (d : Decoded) → decoded_number d ≡ 11 → ⊥
@@ -89,55 +88,46 @@ misfit_other (decoded.Fits x) e = omega arith
 misfit_other decoded.NoCode e = omega arith
 misfit_other decoded.OutOfRange e = omega arith
 
-returns : tie.Need-returns
-returns c = no_pair _ _ 12 c.without-pair.ensures (unsound_number _ _ (unsound c.before)) (λ e. omega arith)
+pub returns-then-not-is_sound : goal.returns-then-not-is_sound
+returns-then-not-is_sound c = no_pair _ _ 12 c.without_pair.ensures (unsound_number _ _ (unsound (goal.at.returns-then-not-is_sound c).Then-not-is_sound)) (λ e. omega arith)
 
-returns-2 : tie.Need-returns-2
-returns-2 c =
-    let misfit = c.before in
-    let decoded = misfit.before.before in
-    let d = decoded.decode in
-    no_pair _ _ _ c.without-pair2.ensures
-    (misfit_number _ _ (sound decoded.before) d.result d.ensures.0 misfit.before.match.keys2 misfit.misfit.ensures).0
-    (λ e. misfit_other d.result (sym misfit.misfit.ensures ∙ e))
+pub returns-in_default : goal.returns-in_default
+returns-in_default c =
+    let d = c.decode-decoded in
+    no_pair _ _ _ c.without_pair-in_default.ensures
+    (misfit_number _ _ (sound (goal.at.returns-in_default c).Else-not-is_sound) d.result d.ensures.equation c.in_default.not-Fits c.misfit.ensures).0
+    (λ e. misfit_other d.result (sym c.misfit.ensures ∙ e))
 
 -- where the bytes fit, the number is that of the step
-begun : (c : tie.After-refusal-of) → tie.Start
-begun c = let decoded = c.before.before.before.before in decoded.before.before.before
-
-numbered : (c : tie.After-refusal-of)
-    → let y = (begun c).args in
-    c.refusal-of.result ≡ step_refusal (site y.t1) (four_bytes y.code y.activator y.a y.b)
-unfolding begun
+numbered : (c : After-refusal_of-refusal)
+    → let y = c.args in
+    c.refusal_of-refusal.result ≡ step_refusal (site y.s) (four_bytes y.code y.activator y.a y.b)
 numbered c =
-    let fits = c.before.before in
-    let decoded = fits.before.before in
-    let start = decoded.before.before.before in
-    found_number _ _ (shaped_by_type start.args.t1 _ start.well-formed.0.1.1) (sound decoded.before) decoded.decode.ensures.0
-    fits.decoded.given.0.0 fits.decoded.given.1 c.refusal-of.ensures
+    let passed : not (is_sound (site c.args.s)) ≡ false = sym (ap not c.is_sound.ensures.equation) ∙ ap not c.if-not-is_sound.false in
+    found_number _ _ (shaped_by_type c.args.s _ c.well_formed.0.1.1) passed c.decode-decoded.ensures.equation c.in-Fits.x c.in-Fits.is
+    c.refusal_of-refusal.ensures
 
-fitting : (c : tie.After-refusal-of)
-    → let y = (begun c).args in
-    decode_of (four_bytes y.code y.activator y.a y.b) ≡ decoded.Fits c.before.before.decoded.given.0.0
-unfolding begun
-fitting c = let fits = c.before.before in sym fits.before.before.decode.ensures.0 ∙ fits.decoded.given.1
+fitting : (c : After-refusal_of-refusal)
+    → let y = c.args in
+    decode_of (four_bytes y.code y.activator y.a y.b) ≡ decoded.Fits c.in-Fits.x
+fitting c = sym c.decode-decoded.ensures.equation ∙ c.in-Fits.is
 
-returns-3 : tie.Need-returns-3
-unfolding begun
-returns-3 c = no_pair _ _ _ c.without-pair3.ensures (numbered c.before.before) c.before.if2.true
+pub returns-then-refusal-ne11 : goal.returns-then-refusal-ne11
+returns-then-refusal-ne11 c =
+    let at = (goal.at.returns-then-refusal-ne11 c).After-refusal_of-refusal in
+    no_pair _ _ _ c.without_pair-then-refusal-ne11.ensures (numbered at) c.if-refusal-ne11.true
 
-lost-without-requires : tie.Need-lost-without-requires
-unfolding begun
-lost-without-requires c κs =
-    let row = c.before.before.before.before.before in
-    let eleven = row.before in
-    let refused = eleven.before in
-    let start = begun refused in
-    let s = start.args.t1 in
-    let whole : Sound (site s) = (sound_decided (site s) (shaped_by_type s _ start.good.0.1.1)).0 (so (is_sound (site s)) (sound refused.before.before.before.before.before)) in
-    let sized : Fits s = fits_by_type s _ start.good.0.1.1 in (
-      subst (λ (r : Rule). T (bears_access r.target)) (sym row.rule-of.ensures) (removes s _ _ (fitting refused) _ (numbered refused) eleven.if2.false).1,
-      subst (λ (r : Rule). T (fits r.target start.args.b)) (sym row.rule-of.ensures) (b_fits s _ _ (fitting refused) _ (numbered refused) eleven.if2.false),
+pub lost_without-requires : goal.lost_without-requires
+lost_without-requires c =
+    let at = (goal.at.lost_without-requires c).After-refusal_of-refusal in
+    let s = c.args.s in
+    let eleven = c.if-refusal-ne11.false in
+    let whole : Sound (site s) =
+        (sound_decided (site s) (shaped_by_type s _ c.well_formed.0.1.1)).0
+        (so (is_sound (site s)) (sym (ap not c.is_sound.ensures.equation) ∙ ap not c.if-not-is_sound.false)) in
+    let sized : Fits s = fits_by_type s _ c.well_formed.0.1.1 in (
+      subst (λ (r : Rule). T (bears_access r.target)) (sym c.rule_of-rule.ensures) (removes s _ _ (fitting at) _ (numbered at) eleven).1,
+      subst (λ (r : Rule). T (fits r.target c.args.b)) (sym c.rule_of-rule.ensures) (b_fits s _ _ (fitting at) _ (numbered at) eleven),
       valid_relations s whole.valid,
       sized.definitions.long,
       sized.structure.long,
@@ -145,16 +135,8 @@ lost-without-requires c κs =
       sized.exports.long,
     )
 
-returns-4 : tie.Need-returns-4
-unfolding begun
-returns-4 c =
-    let row = c.before.before.before.before.before.before in
-    let eleven = row.before in
-    let refused = eleven.before in
-    the_pair (begun refused).args.t1 _ _ (fitting refused) _ (numbered refused) eleven.if2.false _ _ (ap (λ (r : Rule). r.target) row.rule-of.ensures) c.lost-without.ensures
-
-pub explain_step_spec : {M : Type 1} → statement M
-explain_step_spec =
-    tie.close
-    (tie.spec (λ c κs. tt) (λ c κs. tt) returns (λ c κs. tt) (λ c. search rules) (λ c κs. tt) (λ c κs. tt) returns-2 (λ c κs. tt) (λ c κs. tt) returns-3
-    (λ c κs. tt) lost-without-requires returns-4)
+pub returns : goal.returns
+returns c =
+    let at = (goal.at.returns c).After-refusal_of-refusal in
+    the_pair c.args.s _ _ (fitting at) _ (numbered at) c.if-refusal-ne11.false _ _ (ap (λ (r : Rule). r.target) c.rule_of-rule.ensures)
+    c.lost_without.ensures

@@ -4,7 +4,6 @@ use Prim.Native.Nat.{ℕ, suc, ◌<◌}
 use mathlib.Core.Path.{◌≡◌, refl, sym, ap, ap₂, ◌∙◌}
 use mathlib.Core.List.{List, []}
 use native.Mathlib.Omega.{arith}
-use borrow.Author.Rules.{rules}
 use lib.ListN.{length}
 use Rattle.access.specs.Lending.{Lending}
 use Rattle.access.specs.Answer.{answer, least_counts}
@@ -19,8 +18,7 @@ use Rattle.output.proofs.Placing.{place_counts, placed_none}
 use Rattle.reasons.specs.Explanation.{bytes_for, which}
 use Rattle.reasons.specs.declared.Explanation.{Explanation}
 use Rattle.reasons.specs.declared.Explanation.TheVariants.{ByChain, ByCounts}
-use Rattle.explain.proofs.put_reason.Statement.{statement}
-use Rattle.explain.proofs.put_reason.Tie as tie
+use Rattle.explain.proofs.put_reason.Goals as goal
 
 -- what is promised, where the answer is x
 abbrev Promised : Lending → (a : ℕ) (x : Answer) (before : List ℕ) (r : Explanation) (after : List ℕ) → Type 0
@@ -58,36 +56,20 @@ module _ (l : Lending) (a : ℕ) (before : List ℕ) (n : ℕ) (after : List ℕ
             let unwritten : after ≡ before = w ∙ ap (λ (t : List ℕ). laid t 0 before) (no_chain q) ∙ sym (placed_none 0 before (omega arith)).1 in
             (ap ByCounts (all ∙ sym (counts_length l)), v ∙ ap₂ (λ (t b : List ℕ). laid t 0 b) counted unwritten)
 
-cast-t13 : tie.Need-overflow-cast-t13
-cast-t13 c = let wrote = c.before.before.before in omega (arith, few _ _ _ _ _ wrote.put-chain.ensures.0 wrote.put-chain.ensures.1)
+pub overflow_cast-result : goal.overflow_cast-result
+overflow_cast-result c = omega (arith, few _ _ _ _ _ c.put_chain-count.ensures.place c.put_chain-count.ensures.buffer)
 
-same_length : tie.Need-same-length
-same_length c = search rules
+pub returns-then-count-ne0 : goal.returns-then-count-ne0
+returns-then-count-ne0 c =
+    let p = by_chain _ _ _ _ _ c.put_chain-count.ensures.place c.put_chain-count.ensures.buffer c.if-count-ne0.true in
+    record { equation = p.0; buffer = p.1 }
 
-returns : tie.Need-returns
+pub overflow_cast-result-2 : goal.overflow_cast-result-2
+overflow_cast-result-2 c =
+    omega (arith, all _ _ _ _ _ c.put_chain-count.ensures.place c.put_chain-count.ensures.buffer _ _ c.least_counts-counts.ensures c.put_text.ensures.place)
+
+pub returns : goal.returns
 returns c =
-    let wrote = c.before.before.before in
-    by_chain _ _ _ _ _ wrote.put-chain.ensures.0 wrote.put-chain.ensures.1 c.if1.true
-
-cast-t20 : tie.Need-overflow-cast-t20
-cast-t20 c =
-    let wrote = c.before.before in
-    let counted = wrote.before.before.before in
-    let chain = counted.before.before.before.before in
-    omega (arith, all _ _ _ _ _ chain.put-chain.ensures.0 chain.put-chain.ensures.1 _ _ counted.least-counts.ensures wrote.put-text.ensures.0)
-
-same-length-2 : tie.Need-same-length-2
-same-length-2 c = search rules
-
-returns-2 : tie.Need-returns-2
-returns-2 c =
-    let wrote = c.before.before in
-    let counted = wrote.before.before.before in
-    let chain = counted.before.before.before.before in
-    by_counts _ _ _ _ _ chain.put-chain.ensures.0 chain.put-chain.ensures.1 _ _ counted.least-counts.ensures wrote.put-text.ensures.0
-    counted.before.if1.false _ wrote.put-text.ensures.1
-
-pub put_reason_spec : {M : Type 1} → statement M
-put_reason_spec =
-    tie.close
-    (tie.spec (λ c κs. tt) cast-t13 same_length returns (λ c κs. tt) (λ c. search rules) (λ c κs. tt) cast-t20 same-length-2 returns-2)
+    let p = by_counts _ _ _ _ _ c.put_chain-count.ensures.place c.put_chain-count.ensures.buffer _ _ c.least_counts-counts.ensures c.put_text.ensures.place
+    c.if-count-ne0.false _ c.put_text.ensures.buffer in
+    record { equation = p.0; buffer = p.1 }
