@@ -1,8 +1,6 @@
 -- `bits::lowest` meets its contract.
 -- Assumes nothing.
 use mathlib.Core.Path.{sym, subst}
-use native.Mathlib.Omega.{arith}
-use lib.Count.{trailing_le}
 use Rattle.bits.specs.Bits.{Lowest, lowest}
 use Rattle.bits.proofs.Laws.{lowest_counted, lowest_is_right}
 use Rattle.bits.proofs.lowest.Goals as goal

@@ -1,7 +1,5 @@
 -- `bits::size` meets its contract.
 -- Assumes nothing.
-use native.Mathlib.Omega.{arith}
-use lib.Count.{ones-le}
 use Rattle.bits.specs.Bits.{size}
 use Rattle.bits.proofs.Laws.{size_counted}
 use Rattle.bits.proofs.size.Goals as goal
