@@ -23,10 +23,10 @@ loop-n-init c =
     (zero-le, first, first, start_counts _ _ _ _ first c.count_as.ensures)
 
 -- after `difference` the new areas are the next layer
-new-layer : (c : After-difference-new)
+new_layer : (c : After-difference-new)
     → let a = c.args in
     c.difference-new.result ≡ layer_row (bit a.defined) (move_by (cells_of a.structure.now) (transpose (cells_of a.structure.now)) (bit a.imported) (bit a.exported)) (suc c.loop-n.n)
-new-layer c =
+new_layer c =
     let inv = c.loop-n.invariant in
     round _ _ _ _ _ _ _ inv.1 inv.2 c.next_alone-near.ensures c.difference-new.ensures
 
@@ -34,7 +34,7 @@ pub returns-then-is_empty : goal.returns-then-is_empty
 returns-then-is_empty c =
     let at = goal.at.returns-then-is_empty c in
     let inv = c.loop-n.invariant in
-    ended_counts _ _ _ _ _ inv.0 (new-layer at.After-difference-new) inv.3 (sym c.is_empty.ensures ∙ c.if-is_empty.true)
+    ended_counts _ _ _ _ _ inv.0 (new_layer at.After-difference-new) inv.3 (sym c.is_empty.ensures ∙ c.if-is_empty.true)
 
 pub count_as-requires-in-loop-n : goal.count_as-requires-in-loop-n
 count_as-requires-in-loop-n c =
@@ -50,9 +50,9 @@ loop-n-preserved c =
     let at = goal.at.loop-n-preserved c in
     let inv = c.loop-n.invariant in (
       omega arith,
-      new-layer at.After-difference-new ∙ ap (layer_row _ _) (sym (add-one _)),
-      reach _ _ _ _ _ _ inv.2 (new-layer at.After-difference-new) c.union-all.ensures,
-      next_counts _ _ _ _ _ _ c.loop-n-test.true (new-layer at.After-difference-new) inv.3 c.count_as-in-loop-n.ensures,
+      new_layer at.After-difference-new ∙ ap (layer_row _ _) (sym (add-one _)),
+      reach _ _ _ _ _ _ inv.2 (new_layer at.After-difference-new) c.union-all.ensures,
+      next_counts _ _ _ _ _ _ c.loop-n-test.true (new_layer at.After-difference-new) inv.3 c.count_as-in-loop-n.ensures,
     )
 
 pub returns : goal.returns

@@ -74,14 +74,6 @@ unsound c = sym (ap not c.is_sound.ensures.equation) ∙ (ap not c.if-not-is_sou
 sound : (c : Else-not-is_sound) → not (is_sound (site c.args.s)) ≡ false
 sound c = sym (ap not c.is_sound.ensures.equation) ∙ (ap not c.if-not-is_sound.false)
 
-ranged : (c : Else-not-a-b) → let x = c.args in (x.a < 32) × (x.b < 64)
-ranged c =
-    let x = c.args in
-    let both = so (ltb x.a 32 && ltb x.b 64) (ap not c.if-not-a-b.false) in (
-      ltb→lt x.a 32 (and_left (ltb x.a 32) (ltb x.b 64) both),
-      ltb→lt x.b 64 (and_right (ltb x.a 32) (ltb x.b 64) both),
-    )
-
 unlisted : (c : After-are_listed) (v : Bool) → not c.are_listed.result ≡ v
     → let x = c.args in not (listed (site x.s) area x.a && listed (site x.s) object x.b) ≡ v
 unlisted c v e = sym (ap not c.are_listed.ensures) ∙ e

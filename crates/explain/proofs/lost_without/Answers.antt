@@ -31,13 +31,9 @@ of_object_lem : (s : Site) → Valid s → {r : Lost} {target : Target} (k : Tar
     → r ≡ lost_of (changed s k false 0 a b) b → target ≡ k → r ≡ first_lost (changed s target false 0 a b)
 of_object_lem s valid k t a b h e told = in_arm s k a b (e ∙ sym (lost_is_own s valid k t 0 a b h)) told
 
--- an arm of another target is not come to
-no_access : {P : Type 0} {target : Target} → T (bears_access target) → (k : Target) → target ≡ k → bears_access k ≡ false → P
-no_access t k told e = absurd (subst T (ap bears_access told ∙ e) t)
-
 -- b is an object
-is-object : {target : Target} {b : ℕ} → T (fits target b) → (k : Target) → target ≡ k → (T (fits k b) → b < 64) → b < 64
-is-object {b = b} t k told ranged = ranged (subst (λ (x : Target). T (fits x b)) told t)
+is_object : {target : Target} {b : ℕ} → T (fits target b) → (k : Target) → target ≡ k → (T (fits k b) → b < 64) → b < 64
+is_object {b = b} t k told ranged = ranged (subst (λ (x : Target). T (fits x b)) told t)
 
 -- the relations as they are handed over
 abbrev given : Start → Site
@@ -48,7 +44,7 @@ unfolding lost_of is_lost first_area
 returns-in-Definition c =
     let y = c.args in
     let told = c.in-Definition.is in
-    of_object_lem (given (goal.at.returns-in-Definition c).Start) c.requires.2 Definition tt y.a y.b (is-object c.requires.1 Definition told (ltb→lt y.b 64))
+    of_object_lem (given (goal.at.returns-in-Definition c).Start) c.requires.2 Definition tt y.a y.b (is_object c.requires.1 Definition told (ltb→lt y.b 64))
     (c.first_lost_of.ensures ∙ (λ i. lost_of (site_of [] [] [] [] (c.put_in-in-Definition.ensures i) (cells_of y.structure.now) (cells_of y.imports.now) (cells_of y.exports.now)) y.b))
     told
 
@@ -57,7 +53,7 @@ unfolding lost_of is_lost first_area
 returns-in-Import c =
     let y = c.args in
     let told = c.in-Import.is in
-    of_object_lem (given (goal.at.returns-in-Import c).Start) c.requires.2 Import tt y.a y.b (is-object c.requires.1 Import told (ltb→lt y.b 64))
+    of_object_lem (given (goal.at.returns-in-Import c).Start) c.requires.2 Import tt y.a y.b (is_object c.requires.1 Import told (ltb→lt y.b 64))
     (c.first_lost_of-in-Import.ensures ∙ (λ i. lost_of (site_of [] [] [] [] (cells_of y.definitions.now) (cells_of y.structure.now) (c.put_in-in-Import.ensures i) (cells_of y.exports.now)) y.b))
     told
 
@@ -66,6 +62,6 @@ unfolding lost_of is_lost first_area
 returns-in-Export c =
     let y = c.args in
     let told = c.in-Export.is in
-    of_object_lem (given (goal.at.returns-in-Export c).Start) c.requires.2 Export tt y.a y.b (is-object c.requires.1 Export told (ltb→lt y.b 64))
+    of_object_lem (given (goal.at.returns-in-Export c).Start) c.requires.2 Export tt y.a y.b (is_object c.requires.1 Export told (ltb→lt y.b 64))
     (c.first_lost_of-in-Export.ensures ∙ (λ i. lost_of (site_of [] [] [] [] (cells_of y.definitions.now) (cells_of y.structure.now) (cells_of y.imports.now) (c.put_in-in-Export.ensures i)) y.b))
     told

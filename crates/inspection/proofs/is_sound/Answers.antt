@@ -40,52 +40,47 @@ by_validity s e n = rw (e, n) (holds_with (is_valid s))
     holds_with true = refl
     holds_with false = refl
 
--- the record, and what its type says
-abbrev record_of : Start → State
-record_of c = c.args.s
-
-fits : (c : Start) → Fits (record_of c)
-fits c = fits_by_type (record_of c) _ c.well_formed.0.1.1
-
-shaped : (c : Start) → Shaped (site (record_of c))
-shaped c = shaped_by_type (record_of c) _ c.well_formed.0.1.1
-
 -- with the equation the meaning
 meaning : (s : Site) → Shaped s → (b : Bool) → b ≡ is_sound s → T b ↔ Sound s
 meaning s h b e = subst (λ (v : Bool). T v ↔ Sound s) (sym e) (sound_decided s h)
 
 -- ---- what each call promises, of the record
-formed-is : (c : After-are_well_formed) → c.are_well_formed.result ≡ is_well_formed (site (record_of c.before.before.before.before.before.before.before.before.before))
-formed-is c = c.are_well_formed.ensures ∙ well_formed_by_rows (record_of c.before.before.before.before.before.before.before.before.before) (fits c.before.before.before.before.before.before.before.before.before)
+formed_is : (c : After-are_well_formed) → c.are_well_formed.result ≡ is_well_formed (site c.args.s)
+formed_is c = c.are_well_formed.ensures ∙ well_formed_by_rows c.args.s (fits_by_type c.args.s _ c.well_formed.0.1.1)
 
-apart-is : (c : After-are_disjoint) → c.are_disjoint.result ≡ no_own_import (site (record_of c.before.before.before.before.before.before.before.before.before.before.before.before.before))
+apart_is : (c : After-are_disjoint) → c.are_disjoint.result ≡ no_own_import (site c.args.s)
 unfolding site
-apart-is c =
-    let s = record_of c.before.before.before.before.before.before.before.before.before.before.before.before.before in
-    c.are_disjoint.ensures ∙ disjoint_by_rows s.imports s.definitions (fits c.before.before.before.before.before.before.before.before.before.before.before.before.before).imports.long
+apart_is c =
+    let s = c.args.s in
+    c.are_disjoint.ensures ∙ disjoint_by_rows s.imports s.definitions (fits_by_type s _ c.well_formed.0.1.1).imports.long
 
-valid-is : (c : After-are_valid) → c.are_valid.result ≡ is_valid (site (record_of c.before.before.before.before.before.before.before.before.before.before.before.before.before.before.before.before.before.before.before))
-valid-is c =
-    c.are_valid.ensures ∙ valid_by_objects (record_of c.before.before.before.before.before.before.before.before.before.before.before.before.before.before.before.before.before.before.before) (shaped c.before.before.before.before.before.before.before.before.before.before.before.before.before.before.before.before.before.before.before)
+valid_is : (c : After-are_valid) → c.are_valid.result ≡ is_valid (site c.args.s)
+valid_is c = c.are_valid.ensures ∙ valid_by_objects c.args.s (shaped_by_type c.args.s _ c.well_formed.0.1.1)
 
 -- ---- what was passed
-formed : (c : Else-not-are_well_formed) → is_well_formed (site (record_of c.before.before.before.before.before.before.before.before.before.before)) ≡ true
-formed c = sym (formed-is c.before) ∙ not-false _ (ap not c.if-not-are_well_formed.false)
+formed : (c : Else-not-are_well_formed) → is_well_formed (site c.args.s) ≡ true
+formed c = sym (formed_is c.before) ∙ not-false _ (ap not c.if-not-are_well_formed.false)
 
-apart : (c : Else-not-are_disjoint) → no_own_import (site (record_of c.before.before.before.before.before.before.before.before.before.before.before.before.before.before)) ≡ true
-apart c = sym (apart-is c.before) ∙ not-false _ (ap not c.if-not-are_disjoint.false)
+apart : (c : Else-not-are_disjoint) → no_own_import (site c.args.s) ≡ true
+apart c = sym (apart_is c.before) ∙ not-false _ (ap not c.if-not-are_disjoint.false)
 
 pub returns-then-not-are_well_formed : goal.returns-then-not-are_well_formed
 returns-then-not-are_well_formed c =
-    let e = ill_formed _ (sym (formed-is (goal.at.returns-then-not-are_well_formed c).After-are_well_formed) ∙ not-true _ (ap not c.if-not-are_well_formed.true)) in
-    record { equation = e; meaning = meaning _ (shaped (goal.at.returns-then-not-are_well_formed c).Start) false e }
+    let at = goal.at.returns-then-not-are_well_formed c in
+    let e = ill_formed _ (sym (formed_is at.After-are_well_formed) ∙ not-true _ (ap not c.if-not-are_well_formed.true)) in
+    record { equation = e; meaning = meaning _ (shaped_by_type c.args.s _ c.well_formed.0.1.1) false e }
 
 pub returns-then-not-are_disjoint : goal.returns-then-not-are_disjoint
 returns-then-not-are_disjoint c =
-    let e = own_import _ (formed (goal.at.returns-then-not-are_disjoint c).Else-not-are_well_formed) (sym (apart-is (goal.at.returns-then-not-are_disjoint c).After-are_disjoint) ∙ not-true _ (ap not c.if-not-are_disjoint.true)) in
-    record { equation = e; meaning = meaning _ (shaped (goal.at.returns-then-not-are_disjoint c).Start) false e }
+    let at = goal.at.returns-then-not-are_disjoint c in
+    let e =
+        own_import _ (formed at.Else-not-are_well_formed)
+        (sym (apart_is at.After-are_disjoint) ∙ not-true _ (ap not c.if-not-are_disjoint.true)) in
+    record { equation = e; meaning = meaning _ (shaped_by_type c.args.s _ c.well_formed.0.1.1) false e }
 
 pub returns : goal.returns
 returns c =
-    let e = valid-is (goal.at.returns c).After-are_valid ∙ by_validity _ (formed (goal.at.returns c).Else-not-are_well_formed) (apart (goal.at.returns c).Else-not-are_disjoint) in
-    record { equation = e; meaning = meaning _ (shaped (goal.at.returns c).Start) _ e }
+    let at = goal.at.returns c in
+    let e =
+        valid_is at.After-are_valid ∙ by_validity _ (formed at.Else-not-are_well_formed) (apart at.Else-not-are_disjoint) in
+    record { equation = e; meaning = meaning _ (shaped_by_type c.args.s _ c.well_formed.0.1.1) _ e }

@@ -68,16 +68,16 @@ returns-then-importer-lt32 c =
     lost_import _ _ _ _ _ _ c.least_counts-counts.ensures _ _ c.row_of.ensures c.first_area-importer.ensures c.if-importer-lt32.true
 
 -- no importer lacks access, where the exporters are asked
-imports-fit : (c : Else-importer-lt32)
+imports_fit : (c : Else-importer-lt32)
     → let x = c.args in
     loses (site_for x.definitions.now x.structure.now x.imports.now x.exports.now) import x.object ≡ false
-imports-fit c =
+imports_fit c =
     no_import _ _ _ _ _ _ c.least_counts-counts.ensures _ _ c.row_of.ensures c.first_area-importer.ensures c.if-importer-lt32.false
 
 pub returns-then-exporter-lt32 : goal.returns-then-exporter-lt32
 returns-then-exporter-lt32 c =
-    lost_export _ _ _ _ _ _ c.least_counts-counts.ensures _ _ c.row_of-2.ensures c.first_area-exporter.ensures (imports-fit (goal.at.returns-then-exporter-lt32 c).Else-importer-lt32) c.if-exporter-lt32.true
+    lost_export _ _ _ _ _ _ c.least_counts-counts.ensures _ _ c.row_of-2.ensures c.first_area-exporter.ensures (imports_fit (goal.at.returns-then-exporter-lt32 c).Else-importer-lt32) c.if-exporter-lt32.true
 
 pub returns : goal.returns
 returns c =
-    none_lost _ _ _ _ _ _ c.least_counts-counts.ensures _ _ c.row_of-2.ensures c.first_area-exporter.ensures (imports-fit (goal.at.returns c).Else-importer-lt32) c.if-exporter-lt32.false
+    none_lost _ _ _ _ _ _ c.least_counts-counts.ensures _ _ c.row_of-2.ensures c.first_area-exporter.ensures (imports_fit (goal.at.returns c).Else-importer-lt32) c.if-exporter-lt32.false

@@ -39,15 +39,6 @@ answering : (s : Site) (a b : ℕ) (x : Answer) → x ≡ answer (lending s b) a
 unfolding reply_of
 answering s a b x q m e = (rw (e, q) refl, (sym e, (λ z. ap answer_number q, m)))
 
--- what passed the test of its range
-ranged : (c : Else-not-a-b) → let x = c.args in (x.a < 32) × (x.b < 64)
-ranged c =
-    let x = c.args in
-    let both = so (ltb x.a 32 && ltb x.b 64) (ap not c.if-not-a-b.false) in (
-      ltb→lt x.a 32 (and_left (ltb x.a 32) (ltb x.b 64) both),
-      ltb→lt x.b 64 (and_right (ltb x.a 32) (ltb x.b 64) both),
-    )
-
 -- ---- what is known on the way
 unsound : (c : Then-not-is_sound) → not (is_sound (site c.args.s)) ≡ true
 unsound c = sym (ap not c.is_sound.ensures.equation) ∙ (ap not c.if-not-is_sound.true)

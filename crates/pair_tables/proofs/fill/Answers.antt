@@ -28,11 +28,6 @@ turn rows₀ table k before after at row own more inv e m =
     ap (λ (n : ℕ). cells_of (set after (first_byte table k) n)) m ∙ at_hand after (first_byte table k) (second_byte table k) own true
     ∙ with_more k table (cells_of (set after (first_byte table k) own)) (cells_of rows₀) (ap cells_of e ∙ inv)
 
--- as many cells, as many rows
-as_long : (rows₀ : Rows) (table : List ℕ) (k : ℕ) (rows : Rows) (at row : ℕ) → AtHand rows₀ table k rows at row → length rows ≡ length rows₀
-as_long rows₀ table k rows at row inv =
-    omega (arith, cells_length (set rows at row), length-set rows at row, ap length inv, with_length k table (cells_of rows₀), cells_length rows₀)
-
 pub loop-k-init : goal.loop-k-init
 loop-k-init c = (omega arith, begun _ _ _ c.row_of-row.ensures)
 

@@ -22,12 +22,6 @@ turn rows first n row k w e s = rw (w, s) (sym (row_count rows first row e))
 small : (rows : Rows) (first n k : ℕ) → n ≡ count_below rows first → first < 255 → k < 256 → n + k < 2 ^ 16
 small rows first n k w few h = omega (arith, table_count first (pair (cells_of rows)))
 
--- after the last turn
-all : (rows : Rows) (limit first n : ℕ) → (first ≤ limit) × (n ≡ count_below rows first) → limit ≤ first → n ≡ count_below rows limit
-all rows limit first n w h =
-    let last : first ≡ limit = omega arith in
-    w.1 ∙ ap (count_below rows) last
-
 pub loop-first-init : goal.loop-first-init
 unfolding table_below
 loop-first-init c = (omega arith, omega arith)

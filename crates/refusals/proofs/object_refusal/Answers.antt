@@ -22,10 +22,6 @@ in_arm : (s : Site) {n : ℕ} {target : Target} {adds : Bool} (k : Target) (v : 
     → n ≡ first_met (result_checks (changed s k v 0 a b) k v a b) → target ≡ k → adds ≡ v → n ≡ first_met (result_checks (changed s target adds 0 a b) target adds a b)
 in_arm s k v a b e told kind = e ∙ (λ i. first_met (result_checks (changed s (sym told i) (sym kind i) 0 a b) (sym told i) (sym kind i) a b))
 
--- an arm of another target is not come to
-no-object : {P : Type 0} {target : Target} → T (of_object target) → (k : Target) → target ≡ k → of_object k ≡ false → P
-no-object t k told e = absurd (subst T (ap of_object told ∙ e) t)
-
 -- the relations as they are handed over
 abbrev given : Start → Site
 given c = site_for c.args.definitions.now c.args.structure.now c.args.imports.now c.args.exports.now

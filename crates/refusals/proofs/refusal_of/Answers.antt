@@ -88,11 +88,11 @@ returns-then-early-ne0 c =
     is_early (site y.s) y.x y.u y.a y.b c.look-seen.ensures c.rule_of-rule.ensures c.early_refusal-early.ensures c.if-early-ne0.true
 
 -- what is known where no early check is met, and the target is told
-is-object : (c : Then-is_of_object) → T (of_object c.rule_of-rule.result.target)
-is-object c = holds (sym c.is_of_object.ensures ∙ c.if-is_of_object.true)
+is_object : (c : Then-is_of_object) → T (of_object c.rule_of-rule.result.target)
+is_object c = holds (sym c.is_of_object.ensures ∙ c.if-is_of_object.true)
 
-no-object : (c : Else-is_of_object) → of_object c.rule_of-rule.result.target ≡ false
-no-object c = sym c.is_of_object.ensures ∙ c.if-is_of_object.false
+no_object : (c : Else-is_of_object) → of_object c.rule_of-rule.result.target ≡ false
+no_object c = sym c.is_of_object.ensures ∙ c.if-is_of_object.false
 
 pub returns-then-is_of_object : goal.returns-then-is_of_object
 unfolding site
@@ -100,7 +100,7 @@ returns-then-is_of_object c =
     let row = c.rule_of-rule in
     let y = c.args in
     is_late (site y.s) y.x y.u y.a y.b c.look-seen.ensures row.ensures c.early_refusal-early.ensures c.if-early-ne0.false
-    (of_object_lem y.s y.x y.u y.a y.b row.ensures (is-object (goal.at.returns-then-is_of_object c).Then-is_of_object) c.object_refusal.ensures)
+    (of_object_lem y.s y.x y.u y.a y.b row.ensures (is_object (goal.at.returns-then-is_of_object c).Then-is_of_object) c.object_refusal.ensures)
 
 -- an add of what is no pair of an object
 pub returns-then-rule : goal.returns-then-rule
@@ -109,7 +109,7 @@ returns-then-rule c =
     let row = c.rule_of-rule in
     let y = c.args in
     is_late (site y.s) y.x y.u y.a y.b c.look-seen.ensures row.ensures c.early_refusal-early.ensures c.if-early-ne0.false
-    (added (site y.s) y.x y.u y.a y.b row.ensures (no-object (goal.at.returns-then-rule c).Else-is_of_object) c.if-rule.true)
+    (added (site y.s) y.x y.u y.a y.b row.ensures (no_object (goal.at.returns-then-rule c).Else-is_of_object) c.if-rule.true)
 
 pub returns : goal.returns
 unfolding site

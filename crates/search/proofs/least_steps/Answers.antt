@@ -46,10 +46,10 @@ loop-n-init c =
     (zero-le, first, first, first_bit _ _ _ _ _ first c.is_set.ensures c.if-is_set.false)
 
 -- after `difference` the new areas are the next layer
-new-layer : (c : After-difference-new)
+new_layer : (c : After-difference-new)
     → let a = c.args in
     c.difference-new.result ≡ layer_row (bit a.defined) (move_by (cells_of a.structure.now) (transpose (cells_of a.structure.now)) (bit a.imported) (bit a.exported)) (suc c.loop-n.n)
-new-layer c =
+new_layer c =
     let inv = c.loop-n.invariant in
     round _ _ _ _ _ _ _ inv.1 inv.2 c.next_alone-near.ensures c.difference-new.ensures
 
@@ -57,12 +57,12 @@ pub returns-then-is_set-2 : goal.returns-then-is_set-2
 unfolding longest
 returns-then-is_set-2 c =
     let inv = c.loop-n.invariant in
-    found_now _ _ _ _ (omega arith) inv.3 (new_bit _ _ _ _ _ _ _ (new-layer (goal.at.returns-then-is_set-2 c).After-difference-new) c.is_set-in-loop-n.ensures c.if-is_set-2.true)
+    found_now _ _ _ _ (omega arith) inv.3 (new_bit _ _ _ _ _ _ _ (new_layer (goal.at.returns-then-is_set-2 c).After-difference-new) c.is_set-in-loop-n.ensures c.if-is_set-2.true)
 
 pub returns-then-is_empty : goal.returns-then-is_empty
 returns-then-is_empty c =
     let inv = c.loop-n.invariant in
-    ended _ _ _ _ _ inv.0 inv.3 (new-layer (goal.at.returns-then-is_empty c).After-difference-new) (sym c.is_empty.ensures ∙ c.if-is_empty.true)
+    ended _ _ _ _ _ inv.0 inv.3 (new_layer (goal.at.returns-then-is_empty c).After-difference-new) (sym c.is_empty.ensures ∙ c.if-is_empty.true)
 
 pub loop-n-smaller : goal.loop-n-smaller
 unfolding longest
@@ -73,9 +73,9 @@ unfolding longest
 loop-n-preserved c =
     let inv = c.loop-n.invariant in (
       omega arith,
-      new-layer (goal.at.loop-n-preserved c).After-difference-new ∙ ap (layer_row _ _) (sym (add-one _)),
-      reach _ _ _ _ _ _ inv.2 (new-layer (goal.at.loop-n-preserved c).After-difference-new) c.union-all.ensures,
-      not_more _ _ _ _ inv.3 (new_bit _ _ _ _ _ _ _ (new-layer (goal.at.loop-n-preserved c).After-difference-new) c.is_set-in-loop-n.ensures c.if-is_set-2.false),
+      new_layer (goal.at.loop-n-preserved c).After-difference-new ∙ ap (layer_row _ _) (sym (add-one _)),
+      reach _ _ _ _ _ _ inv.2 (new_layer (goal.at.loop-n-preserved c).After-difference-new) c.union-all.ensures,
+      not_more _ _ _ _ inv.3 (new_bit _ _ _ _ _ _ _ (new_layer (goal.at.loop-n-preserved c).After-difference-new) c.is_set-in-loop-n.ensures c.if-is_set-2.false),
     )
 
 pub returns : goal.returns

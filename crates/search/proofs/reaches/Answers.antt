@@ -26,10 +26,10 @@ returns-then-is_subset c =
     within_found _ _ _ _ _ _ inv.0 inv.2 c.is_subset.ensures c.if-is_subset.true
 
 -- after `difference` the new areas are the next layer
-new-layer : (c : After-difference-new)
+new_layer : (c : After-difference-new)
     → let a = c.args in
     c.difference-new.result ≡ layer_row (bit a.defined) (move_by (cells_of a.structure.now) (cells_of a.transposed.now) (bit a.imported) (bit a.exported)) (suc c.loop-n.n)
-new-layer c =
+new_layer c =
     let inv = c.loop-n.invariant in
     round _ _ _ _ _ _ _ inv.1 inv.2 c.next-near.ensures c.difference-new.ensures
 
@@ -37,7 +37,7 @@ pub returns-then-is_empty : goal.returns-then-is_empty
 returns-then-is_empty c =
     let inv = c.loop-n.invariant in
     sym c.if-is_subset.false
-    ∙ within_ended _ _ _ _ _ _ _ inv.0 inv.2 (new-layer (goal.at.returns-then-is_empty c).After-difference-new) (sym c.is_empty.ensures ∙ c.if-is_empty.true) c.is_subset.ensures
+    ∙ within_ended _ _ _ _ _ _ _ inv.0 inv.2 (new_layer (goal.at.returns-then-is_empty c).After-difference-new) (sym c.is_empty.ensures ∙ c.if-is_empty.true) c.is_subset.ensures
 
 pub loop-n-smaller : goal.loop-n-smaller
 unfolding longest
@@ -47,7 +47,7 @@ pub loop-n-preserved : goal.loop-n-preserved
 unfolding longest
 loop-n-preserved c =
     let inv = c.loop-n.invariant in
-    (omega arith, new-layer (goal.at.loop-n-preserved c).After-difference-new ∙ ap (layer_row _ _) (sym (add-one _)), reach _ _ _ _ _ _ inv.2 (new-layer (goal.at.loop-n-preserved c).After-difference-new) c.union-all.ensures)
+    (omega arith, new_layer (goal.at.loop-n-preserved c).After-difference-new ∙ ap (layer_row _ _) (sym (add-one _)), reach _ _ _ _ _ _ inv.2 (new_layer (goal.at.loop-n-preserved c).After-difference-new) c.union-all.ensures)
 
 pub returns : goal.returns
 unfolding longest

@@ -34,9 +34,9 @@ module _ (s : Site) (file : List ℕ) (held : s ≡ state_in file) where
   labelled v e k t = by_labels s lists shape (part file labels) v e (k ∙ ap (labels_listed s.areas) t)
 
 -- 28, where the record is well-formed: the labels decide
-by-listed : (c : After-labels_listed) (v : Bool) → not c.labels_listed.result ≡ v
+by_listed : (c : After-labels_listed) (v : Bool) → not c.labels_listed.result ≡ v
     → condition (site c.args.s) c.args.file.now c.requires ≡ v
-by-listed c v e =
+by_listed c v e =
     labelled _ _ c.requires v c.is_well_formed.ensures
     c.labels_listed.ensures c.labels.ensures (ap not c.if-not-is_well_formed.false) e
 
@@ -44,7 +44,7 @@ pub returns-then-not-is_well_formed : goal.returns-then-not-is_well_formed
 returns-then-not-is_well_formed c = sym (met _ _ (ill_formed _ _ c.requires c.is_well_formed.ensures (ap not c.if-not-is_well_formed.true)))
 
 pub returns-then-not-labels_listed : goal.returns-then-not-labels_listed
-returns-then-not-labels_listed c = sym (met _ _ (by-listed (goal.at.returns-then-not-labels_listed c).After-labels_listed true (ap not c.if-not-labels_listed.true)))
+returns-then-not-labels_listed c = sym (met _ _ (by_listed (goal.at.returns-then-not-labels_listed c).After-labels_listed true (ap not c.if-not-labels_listed.true)))
 
 -- 29, from what was told of the state
 by_entries : (s : Site) {valid no_own : Bool} (v w : Bool) → valid ≡ is_valid s → no_own ≡ no_own_import s
@@ -54,15 +54,15 @@ by_entries s v w e k n m = ap₂ ◌||◌ (sym (ap not e) ∙ n) (sym (ap not k)
 -- past 28, validity decides 29, and behind it the imports
 pub returns-then-not-is_valid : goal.returns-then-not-is_valid
 returns-then-not-is_valid c =
-    sym (passed _ _ (by-listed (goal.at.returns-then-not-is_valid c).After-labels_listed false (ap not c.if-not-labels_listed.false)) ∙ met _ _ (by_entries _ true _ c.is_valid.ensures.equation refl (ap not c.if-not-is_valid.true) refl))
+    sym (passed _ _ (by_listed (goal.at.returns-then-not-is_valid c).After-labels_listed false (ap not c.if-not-labels_listed.false)) ∙ met _ _ (by_entries _ true _ c.is_valid.ensures.equation refl (ap not c.if-not-is_valid.true) refl))
 
 pub returns-then-not-has_no_own_import : goal.returns-then-not-has_no_own_import
 returns-then-not-has_no_own_import c =
-    sym (passed _ _ (by-listed (goal.at.returns-then-not-has_no_own_import c).After-labels_listed false (ap not c.if-not-labels_listed.false))
+    sym (passed _ _ (by_listed (goal.at.returns-then-not-has_no_own_import c).After-labels_listed false (ap not c.if-not-labels_listed.false))
     ∙ met _ _ (by_entries _ false true c.is_valid.ensures.equation c.has_no_own_import.ensures.equation (ap not c.if-not-is_valid.false) (ap not c.if-not-has_no_own_import.true)))
 
 pub returns : goal.returns
 returns c =
-    sym (passed _ _ (by-listed (goal.at.returns c).After-labels_listed false (ap not c.if-not-labels_listed.false))
+    sym (passed _ _ (by_listed (goal.at.returns c).After-labels_listed false (ap not c.if-not-labels_listed.false))
     ∙ passed _ _ (by_entries _ false false c.is_valid.ensures.equation c.has_no_own_import.ensures.equation (ap not c.if-not-is_valid.false) (ap not c.if-not-has_no_own_import.false))
     ∙ none_met)
