@@ -18,7 +18,8 @@ pub loop-at-init : goal.loop-at-init
 loop-at-init c = reached_none _ _ _ c.founding-s.ensures c.requires
 
 -- the line that is read is the first of those that are left
-first : (input : List ℕ) (at : ℕ) (f : First) → f ≡ first_line_of (take (length input - at) (drop at input)) → f ≡ first_line_of (drop at input)
+first : (input : List ℕ) (at : ℕ) (f : First)
+    → f ≡ first_line_of (take (length input - at) (drop at input)) → f ≡ first_line_of (drop at input)
 first input at f e = e ∙ ap first_line_of (part_from input at)
 
 pub overflow_add-at : goal.overflow_add-at
@@ -38,7 +39,8 @@ loop-at-preserved c =
     let read = first c.args.input.now c.loop-at.at _ c.first_line-first.ensures.equation in
     let said = obeyed (site c.loop-at.s) in
     elim c.match-line.branch [
-      | in-Unreadable w ↦ reached_more _ _ _ _ _ _ c.loop-at.invariant c.loop-at-test.true _ (verdict 13 (site c.loop-at.s)) _ _ read
+      | in-Unreadable w ↦
+          reached_more _ _ _ _ _ _ c.loop-at.invariant c.loop-at-test.true _ (verdict 13 (site c.loop-at.s)) _ _ read
           (ap said (sym w.in-Unreadable.is)) w.results-is (ap site w.s-is)
       | in-Readable w ↦
           let o = verdict w.step-outcome.result.refusal (site w.step-outcome.result.state) in

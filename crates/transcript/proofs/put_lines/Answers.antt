@@ -18,7 +18,9 @@ turns : (results : List ℕ) → Turns (length results) (line results) (rest res
 unfolding line result_lines
 turns results =
     record {
-      more = λ i h. ap (result_lines (i + 1)) (drop-cons results i 0 h) ∙ ap (λ (k : ℕ). line results i ++ result_lines (i + 1 + 1) (drop k results)) (sym (add-one i));
+      more = λ i h.
+          ap (result_lines (i + 1)) (drop-cons results i 0 h)
+          ∙ ap (λ (k : ℕ). line results i ++ result_lines (i + 1 + 1) (drop k results)) (sym (add-one i));
       none = ap (result_lines (length results + 1)) (drop-length results);
     }
 

@@ -7,5 +7,8 @@ use Rattle.transcript.proofs.put_session.Goals as goal
 pub returns : goal.returns
 unfolding session_text
 returns c =
-    let p = placed_then _ _ _ _ c.well_formed.0.0 _ _ _ _ (c.put_lines-behind_lines.ensures.place, c.put_lines-behind_lines.ensures.buffer) (c.put_state.ensures.place, c.put_state.ensures.buffer) in
+    let p = placed_then _ _ _ _ c.well_formed.0.0 _ _ _ _
+    (c.put_lines-behind_lines.ensures.place, c.put_lines-behind_lines.ensures.buffer)
+    (c.put_state.ensures.place, c.put_state.ensures.buffer)
+    in
     record { place = p.0; buffer = p.1 }
