@@ -1,16 +1,10 @@
 -- `counts::count` meets its contract. The loop's invariant: what is counted, and what the rows from i on hold, is all.
 -- Assumes nothing.
-use Prim.Native.Nat.{ℕ, suc, ◌+◌, ◌-◌, ◌≤◌, ◌<◌}
-use mathlib.Core.Path.{◌≡◌, ap, ◌∙◌}
-use native.Mathlib.Omega.{arith}
-use lib.ListN.{length, get_or, drop, drop_of_length-le}
-use lib.Seq.{drop-cons}
-use Rattle.bits.specs.Bits.{size}
-use Rattle.bits.specs.Rows.{Rows, cells_of}
-use Rattle.bits.proofs.Cells.{cells_length}
+use Prim.Native.Nat.{◌+◌, ◌-◌, ◌≤◌}
+use mathlib.Core.Path.{◌≡◌}
+use lib.ListN.{drop}
+use Rattle.bits.specs.Rows.{cells_of}
 use Rattle.state.specs.Walk.{count}
-use Rattle.state.proofs.Walk.{count_within}
-use Rattle.relations.proofs.Laws.{count_of_row}
 use Rattle.counts.proofs.count.Given as goal
 
 abbrev pub invariant-loop-i : goal.invariant-loop-i

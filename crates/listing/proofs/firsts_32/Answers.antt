@@ -1,7 +1,6 @@
 -- `listing::firsts_32` meets its contract: one row.
 -- Assumes nothing.
 use mathlib.Core.Path.{◌∙◌}
-use native.Mathlib.Omega.{arith}
 use Rattle.relations.specs.Relations.{firsts}
 use Rattle.listing.proofs.Sets.{from_zero, one_row}
 use Rattle.listing.proofs.firsts_32.Goals as goal

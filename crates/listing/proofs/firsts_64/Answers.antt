@@ -1,6 +1,5 @@
 -- `listing::firsts_64` meets its contract: two rows.
 -- Assumes nothing.
-use native.Mathlib.Omega.{arith}
 use Rattle.relations.specs.Relations.{firsts}
 use Rattle.listing.proofs.Sets.{two_rows}
 use Rattle.listing.proofs.firsts_64.Goals as goal

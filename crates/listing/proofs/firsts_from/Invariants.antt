@@ -1,11 +1,9 @@
 -- `listing::firsts_from` meets its contract. The loop's invariant: the places below k say whether their number is the first of a pair.
 -- Assumes nothing.
 use Prim.Native.Nat.{◌-◌, ◌≤◌}
-use mathlib.Core.Path.{sym, subst}
-use native.Mathlib.Omega.{arith}
 use Rattle.bits.specs.Rows.{cells_of}
 use Rattle.listing.specs.Parts.{first_from}
-use Rattle.listing.proofs.Written.{Written, written_none, written_more, written_all}
+use Rattle.listing.proofs.Written.{Written}
 use Rattle.listing.proofs.firsts_from.Given as goal
 
 abbrev pub invariant-loop-k : goal.invariant-loop-k

@@ -1,11 +1,8 @@
 -- `relations::exchange` meets its contract. The loop's invariant: the first 2 * k rows are those of the exchange.
 -- Assumes nothing.
-use Prim.Native.Nat.{ℕ, ◌+◌, ◌-◌, ◌*◌, ◌≤◌}
-use mathlib.Core.Path.{◌∙◌}
-use native.Mathlib.Omega.{arith}
-use Rattle.state.proofs.Fill.{Filled, filled_none, filled_more, filled_to, filled_all}
-use Rattle.relations.specs.Turning.{exchanged_row, exchanged}
-use Rattle.relations.proofs.Turning.{even_row, odd_row}
+use Prim.Native.Nat.{◌-◌, ◌*◌, ◌≤◌}
+use Rattle.state.proofs.Fill.{Filled}
+use Rattle.relations.specs.Turning.{exchanged_row}
 use Rattle.relations.proofs.exchange.Given as goal
 
 abbrev pub invariant-loop-k : goal.invariant-loop-k

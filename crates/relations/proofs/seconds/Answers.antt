@@ -1,9 +1,7 @@
 -- `relations::seconds` meets its contract. The loop's invariant: the places of `out` are those of the first i rows.
 -- Assumes nothing.
-use Prim.Native.Nat.{◌-◌, ◌≤◌}
 use mathlib.Core.Path.{sym, subst}
 use native.Mathlib.Omega.{arith}
-use Rattle.bits.specs.Bits.{union}
 use Rattle.relations.proofs.Laws.{Joined, joined_none, joined_more, joined_all}
 use Rattle.relations.proofs.seconds.Goals as goal
 

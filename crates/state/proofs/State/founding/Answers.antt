@@ -1,7 +1,6 @@
 -- `state::State::founding` meets its contract, by computing both sides.
 -- Assumes nothing.
 use mathlib.Core.Path.{refl}
-use native.Mathlib.Omega.{arith}
 use Rattle.bits.specs.Bits.{bit}
 use Rattle.bits.specs.Rows.{bits_of, cells_of}
 use Rattle.state.specs.Cells.{mark, put}
