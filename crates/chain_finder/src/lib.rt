@@ -33,7 +33,8 @@ fn count_as(counts: &mut [u8; 32], areas: u32, n: u8)
 
 // The counts of an object that is given by its rows, layer by layer.
 fn counts_of(defined: u32, structure: &[u32; 32], imported: u32, exported: u32) -> [u8; 32]
-    ensures { result ≡ counts_within (bit defined) (move_by (cells_of structure.now) (transpose (cells_of structure.now)) (bit imported) (bit exported)) longest }
+    ensures { result ≡ counts_within (bit defined) (move_by (cells_of structure.now) (transpose
+        (cells_of structure.now)) (bit imported) (bit exported)) longest }
 {
     let mut counts = [UNREACHED; 32];
     count_as(&mut counts, defined, 0);
@@ -87,7 +88,8 @@ fn put_walk<'a>(
         (bit imported) (bit exported)) area n rows.now
         × (is_open (move_by (cells_of structure.now) (transpose (cells_of structure.now)) (bit imported) (bit exported))
         area n (bit defined) ≡ true) }
-    ensures place { result ≡ place_behind 0 (walk (move_by (cells_of structure.now) (transpose (cells_of structure.now)) (bit imported) (bit exported)) area n (bit defined)) }
+    ensures place { result ≡ place_behind 0 (walk (move_by (cells_of structure.now) (transpose
+        (cells_of structure.now)) (bit imported) (bit exported)) area n (bit defined)) }
     ensures buffer { out.new ≡ laid (walk (move_by (cells_of structure.now) (transpose (cells_of
         structure.now)) (bit imported) (bit exported)) area n (bit defined)) 0 out.old }
 {
@@ -115,7 +117,8 @@ pub fn put_chain<'a>(
     object: u8,
     out: &'a mut [u8],
 ) -> usize
-    ensures place { result ≡ length (first_chain (lending_of (cells_of definitions.now) (cells_of structure.now) (cells_of imports.now) (cells_of exports.now) object) area) }
+    ensures place { result ≡ length (first_chain (lending_of (cells_of definitions.now) (cells_of structure.now)
+        (cells_of imports.now) (cells_of exports.now) object) area) }
     ensures buffer { out.new ≡ laid (first_chain (lending_of (cells_of definitions.now) (cells_of
         structure.now) (cells_of imports.now) (cells_of exports.now) object) area) 0
         out.old }

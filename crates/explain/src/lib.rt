@@ -33,8 +33,10 @@ fn put_reason<'a>(
     object: u8,
     buffer: &'a mut [u8],
 ) -> Explanation
-    ensures equation { result ≡ explained_by (site_for definitions.now structure.now imports.now exports.now) area object }
-    ensures buffer { buffer.new ≡ laid (reason_bytes (site_for definitions.now structure.now imports.now exports.now) area object) 0 buffer.old }
+    ensures equation { result ≡ explained_by (site_for definitions.now structure.now imports.now exports.now)
+        area object }
+    ensures buffer { buffer.new ≡ laid (reason_bytes
+        (site_for definitions.now structure.now imports.now exports.now) area object) 0 buffer.old }
 {
     let count = chain_finder::put_chain(
         definitions,
@@ -99,7 +101,8 @@ fn lost_without<'a>(
     b: u8,
 ) -> Lost
     requires { CanLose target b definitions.now structure.now imports.now exports.now }
-    ensures { result ≡ first_lost (changed (site_for definitions.now structure.now imports.now exports.now) target false 0 a b) }
+    ensures { result ≡ first_lost (changed (site_for definitions.now structure.now imports.now exports.now)
+        target false 0 a b) }
 {
     match target {
         Target::Structure => {

@@ -104,7 +104,8 @@ fn are_well_formed<'a>(
     imports: &'a [u32; 64],
     exports: &'a [u32; 64],
 ) -> bool
-    ensures { result ≡ well_formed users.now areas.now objects.now owners.entry.now definitions.now structure.now imports.now exports.now }
+    ensures { result ≡ well_formed users.now areas.now objects.now owners.now definitions.now structure.now
+        imports.now exports.now }
 {
     let listed = areas[0];
     users_fit(owners, users[0], listed)

@@ -50,7 +50,9 @@ pub fn look<'a>(
     a: u8,
     b: u8,
 ) -> Seen
-    ensures { result ≡ seen_of (site_of (cells_of users.now) (cells_of areas.now) (cells_of objects.now) (cells_of owners.now) (cells_of definitions.now) (cells_of structure.now) (cells_of imports.now) (cells_of exports.now)) u a b }
+    ensures { result ≡ seen_of (site_of (cells_of users.now) (cells_of areas.now) (cells_of objects.now)
+        (cells_of owners.now) (cells_of definitions.now) (cells_of structure.now) (cells_of imports.now)
+        (cells_of exports.now)) u a b }
 {
     Seen {
         activator: relations::is_member(users, u),

@@ -165,7 +165,8 @@ fn pair_refusal<'a>(
     a: u8,
     b: u8,
 ) -> u8
-    ensures { result ≡ first_met (result_checks (site_for definitions.now structure.now imports.now exports.now) Import adds a b) }
+    ensures { result ≡ first_met (result_checks (site_for definitions.now structure.now imports.now exports.now)
+        Import adds a b) }
 {
     if adds {
         if has_access(definitions, structure, imports, exports, a, b) {
@@ -208,7 +209,8 @@ fn object_refusal<'a>(
     a: u8,
     b: u8,
 ) -> u8
-    requires { T (of_object target) × (length definitions.now ≡ 64) × (length imports.now ≡ 64) × (length exports.now ≡ 64) }
+    requires { T (of_object target) × (length definitions.now ≡ 64) × (length imports.now ≡ 64) ×
+        (length exports.now ≡ 64) }
     ensures { result ≡ first_met (result_checks (changed (site_for definitions.now structure.now
         imports.now exports.now) target adds 0 a b) target adds a b) }
 {

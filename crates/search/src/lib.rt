@@ -34,7 +34,8 @@ fn next<'a>(
 
 // The same for an object by itself, for which no transpose is made: the rows of those that import it are looked at.
 pub fn next_alone(layer: u32, structure: &[u32; 32], imported: u32, exported: u32) -> u32
-    ensures { result ≡ next_to (move_by (cells_of structure.now) (transpose (cells_of structure.now)) (bit imported) (bit exported)) layer }
+    ensures { result ≡ next_to (move_by (cells_of structure.now) (transpose (cells_of structure.now))
+        (bit imported) (bit exported)) layer }
 {
     let outward = relations::image(structure, bits::intersection(layer, exported));
     let inward = relations::preimage(structure, layer, imported);
@@ -110,7 +111,8 @@ fn least_steps(
     exported: u32,
     area: u8,
 ) -> Answer
-    ensures { result ≡ answer_within (bit defined) (move_by (cells_of structure.now) (transpose (cells_of structure.now)) (bit imported) (bit exported)) longest area }
+    ensures { result ≡ answer_within (bit defined) (move_by (cells_of structure.now) (transpose
+        (cells_of structure.now)) (bit imported) (bit exported)) longest area }
 {
     if bits::is_set(defined, area) {
         return Answer::Steps(0);
@@ -142,10 +144,12 @@ pub fn steps<'a>(
     area: u8,
     object: u8,
 ) -> Answer
-    ensures equation { result ≡ answer (lending_of (cells_of definitions.now) (cells_of structure.now) (cells_of imports.now) (cells_of exports.now) object) area }
+    ensures equation { result ≡ answer (lending_of (cells_of definitions.now) (cells_of structure.now)
+        (cells_of imports.now) (cells_of exports.now) object) area }
     ensures meaning { Right (lending_of (cells_of definitions.now) (cells_of structure.now)
         (cells_of imports.now) (cells_of exports.now) object) area result }
-    ensures number { answer_number result ≡ least_count (lending_of (cells_of definitions.now) (cells_of structure.now) (cells_of imports.now) (cells_of exports.now) object) area }
+    ensures number { answer_number result ≡ least_count (lending_of (cells_of definitions.now)
+        (cells_of structure.now) (cells_of imports.now) (cells_of exports.now) object) area }
 {
     let defined = relations::row_of(definitions, object);
     let imported = relations::row_of(imports, object);

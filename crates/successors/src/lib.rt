@@ -58,8 +58,8 @@ pub fn successor(s: State, x: Instruction, u: u8, a: u8, b: u8) -> State
 
 // The same for four bytes, by what they fit; those that fit no instruction change nothing.
 pub fn next(s: State, code: u8, activator: u8, a: u8, b: u8) -> State
-    ensures { site result ≡ successor_of (site s) (four_bytes code activator a b) (decode_of (four_bytes code activator a
-        b)) }
+    ensures { site result ≡ successor_of (site s) (four_bytes code activator a b)
+        (decode_of (four_bytes code activator a b)) }
 {
     let Decoded::Fits(x) = instructions::decode(code, activator, a, b) else {
         return s;

@@ -21,7 +21,8 @@ pub fn first_lacking<'a>(
     these: &'a [u32; 64],
     those: &'a [u32; 64],
 ) -> u8
-    ensures { result ≡ first_below 64 (lacking (site_for definitions.now structure.now imports.now exports.now) (cells_of these.now) (cells_of those.now)) }
+    ensures { result ≡ first_below 64 (lacking (site_for definitions.now structure.now imports.now exports.now)
+        (cells_of these.now) (cells_of those.now)) }
 {
     let transposed = relations::transposed(structure);
     for o in 0..64u8 {
