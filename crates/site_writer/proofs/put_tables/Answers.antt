@@ -1,5 +1,5 @@
--- `site_writer::put_tables` meets its contract: six tables, one behind the other. The body of a file nests to the right,
--- so they are put together from the last.
+-- `site_writer::put_tables` meets its contract: six tables, one behind the other. The body of a file nests to the
+-- right, so they are put together from the last.
 -- Assumes nothing.
 use Prim.Native.Nat.{ℕ}
 use mathlib.Core.Path.{sym, subst}
