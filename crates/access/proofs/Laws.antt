@@ -13,7 +13,7 @@ use lib.ListN.{get_or, get_or-eq_default}
 use Rattle.state.specs.Site.{area, object, limit, owner, definition, structure, import, export, related, with_pair}
 use Rattle.state.specs.Site.{Site}
 use Rattle.state.proofs.Bools.{or_left, or_right, or_cases, and_both, and_left, and_right, is_true, is_false, fails, holds}
-use Rattle.state.proofs.Tabulate.{length_tabulate, get_d_tabulate}
+use Rattle.state.proofs.Tabulate.{length_tabulate, get_or_tabulate}
 use Rattle.state.proofs.Laws.{related_other, related_outside, add_keeps_pairs, remove_adds_none}
 use Rattle.access.specs.Lending.{Lending, step, lending}
 use Rattle.access.specs.Chain.{Chain, here, onward, ObjectChain}
@@ -119,7 +119,7 @@ never_above l a n e = let r = subst (Right l a) e (answer_is_right l a) in omega
 -- the count of an area in the table of counts
 pub count_at : (start : ℕ → Bool) (move : ℕ → ℕ → Bool) (n a : ℕ) → a < limit area → get_or (counts_within start move n) a 0 ≡ answer_number (answer_within start move n a)
 unfolding counts_within
-count_at start move n a h = get_d_tabulate _ (limit area) a 0 h
+count_at start move n a h = get_or_tabulate _ (limit area) a 0 h
 
 pub count_is_answer : Laws.CountIsAnswer
 unfolding least_counts answer
@@ -137,7 +137,7 @@ outside l a h =
 
 count_inside : (l : Lending) (a : ℕ) → a < limit area → answer_number (answer l a) ≡ least_count l a
 unfolding least_counts counts_within answer
-count_inside l a h = sym (get_d_tabulate _ (limit area) a _ h)
+count_inside l a h = sym (get_or_tabulate _ (limit area) a _ h)
 
 count_outside : (l : Lending) (a : ℕ) → limit area ≤ a → least_count l a ≡ unreached
 unfolding least_counts counts_within

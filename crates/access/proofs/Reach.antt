@@ -11,7 +11,7 @@ use lib.Dec.{T}
 use lib.ListN.{get_or-eq_default}
 use Rattle.state.specs.Tabulate.{tabulate}
 use Rattle.state.specs.Site.{area, limit}
-use Rattle.state.proofs.Tabulate.{length_tabulate, get_d_tabulate}
+use Rattle.state.proofs.Tabulate.{length_tabulate, get_or_tabulate}
 use Rattle.state.proofs.Bools.{or_left, or_right, or_cases}
 use Rattle.state.proofs.Walk.{some_found, some_there}
 use Rattle.access.specs.Chain.{Chain, here, onward}
@@ -19,7 +19,7 @@ use Rattle.access.specs.Answer.{has, some_area, spread, reached}
 
 -- ---- sets of areas
 pub has_tabulate : (f : ℕ → Bool) (a : ℕ) → a < limit area → has (tabulate (limit area) f) a ≡ f a
-has_tabulate f a h = get_d_tabulate f (limit area) a false h
+has_tabulate f a h = get_or_tabulate f (limit area) a false h
 
 -- an area of the tabulated set is an area, and meets the test
 pub in_set : (f : ℕ → Bool) (a : ℕ) → T (has (tabulate (limit area) f) a) → (a < limit area) × T (f a)

@@ -10,7 +10,7 @@ use lib.ListN.{length, get_or, replicate, get_or-replicate}
 use Rattle.bits.specs.Bits.{bit, places, is_empty}
 use Rattle.bits.proofs.Laws.{union_bit, difference_bit}
 use Rattle.state.proofs.Bools.{and_right, is_false, holds, not_so}
-use Rattle.state.proofs.Tabulate.{length_tabulate, get_d_tabulate, same_table}
+use Rattle.state.proofs.Tabulate.{length_tabulate, get_or_tabulate, same_table}
 use Rattle.state.specs.Tabulate.{tabulate}
 use Rattle.access.specs.Answer.{longest, answer_within, unreached, answer_number, counts_within}
 use Rattle.search.specs.Rounds.{reachable}
@@ -61,7 +61,7 @@ module _ (start : ℕ → Bool) (move : ℕ → ℕ → Bool) where
       go a h true e =
           let far = was_far n a h e in
           rw (next a h, e, far) (ap answer_number (found_now start move n a hn far e))
-      go a h false e = rw (next a h, e, or-false (bit (reached_row start move n) a)) (get_d_tabulate (known n) places a 0 h)
+      go a h false e = rw (next a h, e, or-false (bit (reached_row start move n) a)) (get_or_tabulate (known n) places a 0 h)
 
   -- once all areas that are reachable are reached, the counts are final
   counts_final : (n : ℕ) → reached_row start move n ≡ reachable start move → counts_to n ≡ counts_within start move longest

@@ -4,7 +4,7 @@ use Prim.Native.Nat.{ℕ, zero, suc, ◌≤◌, ◌<◌}
 use mathlib.Core.Path.{◌≡◌, refl, sym, ap, subst, ◌∙◌}
 use mathlib.Core.Logic.{◌⊎◌, inl, inr}
 use mathlib.Core.Bool.{Bool, true, false, cond}
-use mathlib.Core.List.{List, [], ◌∷◌}
+use mathlib.Core.List.{List, ◌∷◌}
 use native.Mathlib.Nat.{not-suc-le-zero, le_of_suc-le-suc}
 use native.Mathlib.Omega.{arith}
 use lib.Dec.{T}
@@ -14,7 +14,6 @@ use Rattle.state.proofs.Checks.{met, passed, none_met}
 use Rattle.instructions.specs.Instructions.{Bytes, Picked, unknown, instruction, instructions, pick, instruction_of}
 use Rattle.instructions.specs.Decode.{in_range, decoded_as, decoded_number}
 use Rattle.instructions.specs.Claims
-use Rattle.instructions.specs.Claims.{Fitting}
 use Rattle.instructions.specs.declared.Instruction.{Instruction}
 use Rattle.instructions.specs.declared.Instruction.TheVariants.{ListArea}
 use Rattle.instructions.specs.declared.Decoded.{Decoded}

@@ -5,9 +5,7 @@
 use Prim.Native.Nat.{ℕ}
 use mathlib.Core.Path.{◌≡◌, refl, sym, ap, ◌∙◌}
 use mathlib.Core.Bool.{Bool, true, false, not, cond}
-use mathlib.Core.Logic.{inl, inr}
-use mathlib.Core.List.{[], ◌∷◌, ◌++◌}
-use native.Mathlib.Omega.{arith}
+use mathlib.Core.List.{◌++◌}
 use lib.Dec.{eqb}
 use borrow.Author.Tests.{eq-eqb, ne_eqb}
 use Rattle.state.specs.Site.{Site, Shaped, verdict}
@@ -24,7 +22,6 @@ use Rattle.machine.specs.Step.{decided, step_refusal, step_of}
 use Rattle.instructions.specs.declared.Instruction.{Instruction}
 use Rattle.instructions.specs.declared.Decoded.{Decoded}
 use Rattle.instructions.specs.declared.Decoded.TheVariants.{Fits, NoCode, OutOfRange}
-use Rattle.instructions.specs.contracts.Decoded.{the_type}
 use Rattle.state.proofs.Checks.{met, passed}
 use Rattle.refusals.proofs.Late.{found_by_result}
 

@@ -14,7 +14,7 @@ use lib.ListN.{length, drop, drop_of_length-le}
 use lib.Seq.{drop-cons}
 use Rattle.state.specs.Site.{Site, Verdict, verdict}
 use Rattle.state.proofs.Bools.{is_true}
-use Rattle.state.proofs.Tabulate.{get_d_tabulate}
+use Rattle.state.proofs.Tabulate.{get_or_tabulate}
 use Rattle.soundness.specs.Sound.{Sound}
 use Rattle.soundness.specs.Tests.{is_sound}
 use Rattle.soundness.proofs.Laws.{sound_decided}
@@ -49,7 +49,7 @@ module _ (s : Site) (recipe : List ℕ) (call : Call) where
   next_is k h =
       let x = instruction_at call recipe k in
       rw (add-one k)
-      (drop-cons list k x (rw (list_length recipe call) h) ∙ ap (λ (y : Bytes). y ∷ drop (suc k) list) (get_d_tabulate (instruction_at call recipe) (instruction_count recipe) k x h))
+      (drop-cons list k x (rw (list_length recipe call) h) ∙ ap (λ (y : Bytes). y ∷ drop (suc k) list) (get_or_tabulate (instruction_at call recipe) (instruction_count recipe) k x h))
 
   module _ (k : ℕ) (t : Site) (sound : Sound t) (runs : Runs k t) where
     pub ends : instruction_count recipe ≤ k → recipe_verdict 0 0 t ≡ recipe_of s recipe call

@@ -20,7 +20,7 @@ use Rattle.state.specs.Site.{Kind, user, area, object, limit, Relation, owner, d
 use Rattle.state.specs.Site.{Site}
 use Rattle.state.proofs.Bools.{and_both, is_true, holds, test}
 use Rattle.state.proofs.Below.{each_by}
-use Rattle.state.proofs.Tabulate.{length_tabulate, get_d_tabulate, tabulate_is}
+use Rattle.state.proofs.Tabulate.{length_tabulate, get_or_tabulate, tabulate_is}
 use Rattle.state.proofs.Laws.{member_cell, pair_cell, empty_shaped}
 use Rattle.records.specs.Record.{list_start, pair_start, record_size, places, byte_of, bytes_of, is_byte, is_record, is_set, cells_at, list_at, pairs_at, state_at, state_of, stored}
 use Rattle.records.specs.Claims
@@ -132,13 +132,13 @@ module _ (bytes : List ℕ) where
           go : Dec (k < m) → get_or (c ++ cells_at bytes start n) k false ≡ place_at k
           go (yes l) =
               get_or-append c (cells_at bytes start n) false k (rw before l) ∙ ap (λ (x : List Bool). get_or x k false) f.read
-              ∙ get_d_tabulate place_at m k false l
+              ∙ get_or_tabulate place_at m k false l
           go (no l) =
               let e : k ≡ length c + (k - m) = omega (arith, before) in
               let byte : start + (k - m) / 8 ≡ 0 + k / 8 = omega arith in
               let place : (k - m) % 8 ≡ k % 8 = omega arith in
               ap (λ (j : ℕ). get_or (c ++ cells_at bytes start n) j false) e ∙ get_or-append-add c (cells_at bytes start n) (k - m) false
-              ∙ get_d_tabulate (is_set bytes start) n (k - m) false (omega arith) ∙ ap₂ (λ (b j : ℕ). bit (get_or bytes b 0) j) byte place
+              ∙ get_or_tabulate (is_set bytes start) n (k - m) false (omega arith) ∙ ap₂ (λ (b j : ℕ). bit (get_or bytes b 0) j) byte place
 
   all_read : Front place_count (places (state_at bytes))
   all_read =
@@ -159,7 +159,7 @@ module _ (bytes : List ℕ) where
       let inside : p * 8 + k < place_count = omega arith in
       let byte : 0 + (p * 8 + k) / 8 ≡ p = omega arith in
       let place : (p * 8 + k) % 8 ≡ k = omega arith in
-      sym (ap (λ (c : List Bool). get_or c (p * 8 + k) false) all_read.read ∙ get_d_tabulate place_at place_count (p * 8 + k) false inside
+      sym (ap (λ (c : List Bool). get_or c (p * 8 + k) false) all_read.read ∙ get_or_tabulate place_at place_count (p * 8 + k) false inside
       ∙ ap₂ (λ (b j : ℕ). bit (get_or bytes b 0) j) byte place)))
 
 at_shaped : (bytes : List ℕ) → Shaped (state_at bytes)

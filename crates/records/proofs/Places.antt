@@ -8,7 +8,7 @@
 use Prim.Native.Nat.{ℕ, ◌+◌, ◌-◌, ◌*◌, ◌≤◌, ◌<◌}
 use mathlib.Core.Path.{◌≡◌, refl, sym, ap, ap₂, ◌∙◌}
 use mathlib.Core.Bool.{Bool, false}
-use mathlib.Core.List.{List, [], ◌∷◌, ◌++◌}
+use mathlib.Core.List.{List, ◌∷◌, ◌++◌}
 use native.Mathlib.Omega.{arith}
 use native.Mathlib.Nat.{zero-add, suc-add}
 use native.Mathlib.Decide.{dec_lt}
@@ -20,7 +20,7 @@ use Rattle.state.specs.Cells.{width, mark, put}
 use Rattle.state.specs.Site.{Kind, user, area, object, limit, Relation, owner, definition, structure, import, export, first_kind, members, cells, with_listed, with_pair, Shaped}
 use Rattle.state.specs.Site.{Site}
 use Rattle.records.specs.Record.{list_start, pair_start, places, byte_of, bytes_of_places}
-use Rattle.state.proofs.Tabulate.{length_tabulate, get_d_tabulate, tabulate_is}
+use Rattle.state.proofs.Tabulate.{length_tabulate, get_or_tabulate, tabulate_is}
 use Rattle.state.proofs.Laws.{mark_cell, put_cell}
 
 -- how many places there are
@@ -83,7 +83,7 @@ bytes_long n c = length_tabulate (byte_of c) n
 
 pub byte_at : (n : ℕ) (c : List Bool) (p : ℕ) → p < n → get_or (bytes_of_places n c) p 0 ≡ byte_of c p
 unfolding bytes_of_places
-byte_at n c p h = get_d_tabulate (byte_of c) n p 0 h
+byte_at n c p h = get_or_tabulate (byte_of c) n p 0 h
 
 pub byte_bit : (n : ℕ) (c : List Bool) (p k : ℕ) → p < n → k < 8 → bit (get_or (bytes_of_places n c) p 0) k ≡ get_or c (p * 8 + k) false
 byte_bit n c p k hp hk = ap (λ (x : ℕ). bit x k) (byte_at n c p hp) ∙ word_bit 8 _ k hk

@@ -1,6 +1,5 @@
 -- The claim of specs/Claims.antt, proved under its name.
 -- Assumes nothing.
-use Prim.Native.Nat.{ℕ}
 use mathlib.Core.Path.{ap}
 use mathlib.Core.Bool.{not}
 use mathlib.Core.List.{◌∷◌, ◌++◌}

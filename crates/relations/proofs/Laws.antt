@@ -4,7 +4,7 @@
 use Prim.Native.Nat.{ℕ, zero, suc, ◌+◌, ◌*◌, ◌/◌, ◌%◌, ◌^◌, ◌≤◌, ◌<◌}
 use mathlib.Core.Path.{◌≡◌, refl, sym, ap, ap₂, subst, ◌∙◌}
 use mathlib.Core.Bool.{Bool, true, false, ◌&&◌, not, cond}
-use mathlib.Core.List.{List, [], ◌∷◌, ◌++◌}
+use mathlib.Core.List.{List, ◌∷◌, ◌++◌}
 use native.Mathlib.Omega.{arith}
 use native.Mathlib.Nat.{zero-add, suc-add}
 use native.Mathlib.Decide.{dec_lt}
@@ -21,7 +21,7 @@ use Rattle.state.specs.Tabulate.{tabulate}
 use Rattle.state.specs.Cells.{Pairs, width, member, mark, pair, put}
 use Rattle.state.specs.Walk.{has_first, has_second, count}
 use Rattle.state.proofs.Bools.{same_test, is_false, fails, so_not, not_so}
-use Rattle.state.proofs.Tabulate.{length_tabulate, get_d_tabulate, tabulate_is}
+use Rattle.state.proofs.Tabulate.{length_tabulate, get_or_tabulate, tabulate_is}
 use Rattle.state.proofs.Found.{Found, found_none, found_more}
 use Rattle.state.proofs.Laws.{member_cell, mark_cell, pair_cell, put_cell, pair_area, has_first_lem, has_second_lem}
 use Rattle.relations.specs.Claims.{MemberBit, PairBit, SizeIsCount, CountOfRow, BitsOfWord, packed, CellsOfPacked, PackedOfCells}
@@ -45,7 +45,7 @@ in_row cells i j = get_or cells (i * places + j) false
 
 packed_row : (n : ℕ) (cells : List Bool) (i : ℕ) → i < n → get_or (packed n cells) i 0 ≡ word places (in_row cells i)
 unfolding packed
-packed_row n cells i h = get_d_tabulate _ n i 0 h
+packed_row n cells i h = get_or_tabulate _ n i 0 h
 
 pub packed_length : (n : ℕ) (cells : List Bool) → length (packed n cells) ≡ n
 unfolding packed
@@ -181,7 +181,7 @@ member_of_test : (test : ℕ → Bool) (n i : ℕ) → member (tabulate n test) 
 member_of_test test n i = member_cell (tabulate n test) i ∙ go (dec_lt i n)
   where
     go : Dec (i < n) → get_or (tabulate n test) i false ≡ (ltb i n && test i)
-    go (yes h) = rw (lt-ltb i n h) (get_d_tabulate test n i false h)
+    go (yes h) = rw (lt-ltb i n h) (get_or_tabulate test n i false h)
     go (no h) = rw (le-ltb i n (omega arith)) (get_or-eq_default (tabulate n test) false (rw (length_tabulate test n) (omega arith)))
 
 pub firsts_length : FirstsLength
@@ -210,4 +210,4 @@ transposed_pair c i j hi hj =
 pub transpose_reads : TransposeReads
 unfolding transpose
 transpose_reads c i j hi hj =
-    pair_cell (transpose c) i j hj ∙ get_d_tabulate (transpose_cell c) (width * width) (i * width + j) false (omega arith) ∙ transposed_pair c i j hi hj
+    pair_cell (transpose c) i j hj ∙ get_or_tabulate (transpose_cell c) (width * width) (i * width + j) false (omega arith) ∙ transposed_pair c i j hi hj

@@ -4,7 +4,7 @@
 use Prim.Native.Nat.{ℕ, ◌+◌, ◌-◌, ◌*◌, ◌/◌, ◌%◌, ◌^◌, ◌<◌}
 use mathlib.Core.Path.{◌≡◌, refl, sym, ap, ap₂, ◌∙◌}
 use mathlib.Core.Bool.{Bool, true, false, ◌&&◌, ◌||◌, not, cond, beq, and-true}
-use mathlib.Core.List.{List, [], ◌∷◌}
+use mathlib.Core.List.{List, ◌∷◌}
 use native.Mathlib.Omega.{arith}
 use native.Mathlib.Nat.{mod-lt}
 use borrow.Author.Tests.{ltb-true, eqb-true}
@@ -18,7 +18,7 @@ use Rattle.bits.proofs.Laws.{bit_and_lem, bit_or_lem, bit_not, bit_mod, bit_shr,
 use Rattle.bits.proofs.Cells.{cells_length, cell_of}
 use Rattle.state.specs.Below.{each_below}
 use Rattle.state.specs.Cells.{width}
-use Rattle.state.proofs.Tabulate.{length_tabulate, get_d_tabulate, tabulate_is}
+use Rattle.state.proofs.Tabulate.{length_tabulate, get_or_tabulate, tabulate_is}
 use Rattle.state.proofs.Below.{each_at}
 use Rattle.state.proofs.Bools.{and_left, and_right, is_true}
 use Rattle.relations.specs.Relations.{transpose_cell, transpose}
@@ -121,7 +121,7 @@ leads (x ∷ xs) i j m n = (ltb i 32 && ltb j 32) && leads xs (from_row x.mask i
 one_bit : (block mask : ℕ) (rows : Rows) (i j : ℕ) → i < 32 → j < 32
     → bit (get_or (exchanged block mask rows) i 0) j ≡ bit (get_or rows (from_row mask i j) 0) (from_place block mask i j)
 unfolding exchanged exchanged_row
-one_bit block mask rows i j hi hj = ap (λ (n : ℕ). bit n j) (get_d_tabulate _ 32 i 0 hi) ∙ word_bit 32 _ j hj
+one_bit block mask rows i j hi hj = ap (λ (n : ℕ). bit n j) (get_or_tabulate _ 32 i 0 hi) ∙ word_bit 32 _ j hj
 
 all_bits : (xs : List Exchange) (rows : Rows) (i j m n : ℕ) → T (leads xs i j m n)
     → bit (get_or (exchanges xs rows) i 0) j ≡ bit (get_or rows m 0) n

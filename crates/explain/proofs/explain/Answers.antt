@@ -1,17 +1,16 @@
 -- `explain::explain` meets its contract: 31, the refusals of the access question, and what explains its answer.
 -- Assumes nothing.
-use Prim.Native.Nat.{ℕ, ◌≤◌, ◌<◌}
+use Prim.Native.Nat.{ℕ, ◌≤◌}
 use mathlib.Core.Path.{◌≡◌, refl, sym, ap, ◌∙◌}
 use mathlib.Core.Bool.{Bool, true, false, ◌&&◌, not}
 use mathlib.Core.List.{List}
 use native.Mathlib.Omega.{arith}
 use borrow.Author.Tests.{lt-ltb, le-ltb}
-use lib.Dec.{ltb, ltb→lt}
 use lib.ListN.{length}
 use Rattle.state.specs.Checks.{first_met}
 use Rattle.state.specs.Site.{Site, area, object, listed}
 use Rattle.state.specs.Stands.{site}
-use Rattle.state.proofs.Bools.{so, and_left, and_right}
+use Rattle.state.proofs.Bools.{so}
 use Rattle.state.proofs.Checks.{met, passed, none_met}
 use Rattle.access.specs.Lending.{lending}
 use Rattle.access.specs.Answer.{answer}
@@ -26,7 +25,7 @@ use Rattle.reasons.specs.declared.Explanation.{Explanation}
 use Rattle.reasons.specs.declared.Explanation.TheVariants.{Unexplained}
 use Rattle.reasons.proofs.Laws.{refused_so, explained_so, reason_fits, number_is_first}
 use Rattle.explain.proofs.explain.Goals as goal
-use Rattle.explain.proofs.explain.Goals.{After-are_listed, Else-not-a-b, Else-not-is_sound, Then-not-is_sound}
+use Rattle.explain.proofs.explain.Goals.{After-are_listed, Else-not-is_sound, Then-not-is_sound}
 
 -- what is promised
 abbrev Promised : Site → (a b : ℕ) (before : List ℕ) (r : Explanation) (after : List ℕ) → Type 0

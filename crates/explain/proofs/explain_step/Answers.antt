@@ -34,7 +34,7 @@ use Rattle.reasons.specs.declared.StepReason.{StepReason}
 use Rattle.reasons.specs.Lost.{is_lost, first_object, first_area, first_lost, reason, reason_for, step_reason_of}
 use Rattle.reasons.proofs.Laws.{reason_so, eleven_removes}
 use Rattle.explain.proofs.explain_step.Goals as goal
-use Rattle.explain.proofs.explain_step.Goals.{After-refusal_of-refusal, Else-not-is_sound, Start, Then-not-is_sound}
+use Rattle.explain.proofs.explain_step.Goals.{After-refusal_of-refusal, Else-not-is_sound, Then-not-is_sound}
 
 -- ---- the reason, by its number
 no_pair : (s : Site) (x : Bytes) (n : ℕ) {r : StepReason} → r ≡ reason n NoneLost → n ≡ step_refusal s x → (n ≡ 11 → ⊥) → r ≡ step_reason_of s x

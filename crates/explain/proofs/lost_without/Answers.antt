@@ -1,9 +1,8 @@
 -- `explain::lost_without` meets its contract: in each arm the relation that is changed is that of the state which the removal would give.
 -- Assumes nothing.
 use Prim.Native.Nat.{ℕ, ◌<◌}
-use mathlib.Core.Path.{◌≡◌, refl, sym, ap, subst, ◌∙◌}
+use mathlib.Core.Path.{◌≡◌, sym, ap, subst, ◌∙◌}
 use mathlib.Core.Bool.{false}
-use mathlib.Core.List.{[]}
 use lib.Dec.{T, ltb→lt}
 use Rattle.bits.specs.Rows.{cells_of}
 use Rattle.state.specs.Site.{Site, site_of}
@@ -11,9 +10,8 @@ use Rattle.soundness.specs.Sound.{Valid}
 use Rattle.validity.specs.Parts.{site_for}
 use Rattle.instructions.specs.Decode.{fits}
 use Rattle.instructions.specs.declared.Target.{Target}
-use Rattle.instructions.specs.declared.Target.TheVariants.{TheArea, Owner, Definition, Structure, Import, Export}
+use Rattle.instructions.specs.declared.Target.TheVariants.{Definition, Import, Export}
 use Rattle.successors.specs.Successor.{changed}
-use Rattle.refusals.specs.Refusals.{bears_access}
 use Rattle.refusals.specs.Parts.{of_object}
 use Rattle.reasons.specs.declared.Lost.{Lost}
 use Rattle.reasons.specs.Lost.{is_lost, first_area, first_lost, lost_of}

@@ -1,11 +1,8 @@
 -- `inspection::are_disjoint` meets its contract. The loop's invariant: what is apart so far is whether the first o rows are.
 -- Assumes nothing.
 use Prim.Native.Nat.{◌-◌, ◌≤◌}
-use mathlib.Core.Path.{◌≡◌, sym, ap, ◌∙◌}
-use native.Mathlib.Omega.{arith}
-use Rattle.bits.specs.Bits.{is_empty}
+use mathlib.Core.Path.{◌≡◌}
 use Rattle.state.specs.Below.{each_below}
-use Rattle.state.proofs.Below.{each_none, each_step, each_end}
 use Rattle.inspection.specs.Parts.{apart_at}
 use Rattle.inspection.proofs.are_disjoint.Given as goal
 

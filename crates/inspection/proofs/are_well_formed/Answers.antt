@@ -2,7 +2,6 @@
 -- Assumes nothing.
 use mathlib.Core.Path.{ap, ◌∙◌}
 use mathlib.Core.Bool.{◌&&◌, not}
-use native.Mathlib.Omega.{arith}
 use Rattle.bits.specs.Bits.{is_subset}
 use Rattle.inspection.specs.Parts.{well_formed}
 use Rattle.inspection.proofs.are_well_formed.Goals as goal

@@ -2,7 +2,6 @@
 -- Assumes nothing.
 use mathlib.Core.Path.{ap, ◌∙◌}
 use mathlib.Core.Bool.{not}
-use native.Mathlib.Omega.{arith}
 use Rattle.state.specs.Stands.{site, Fits}
 use Rattle.state.proofs.Typed.{fits_by_type}
 use Rattle.inspection.proofs.Parts.{some_by_row}

@@ -8,8 +8,7 @@ use mathlib.Core.Bool.{Bool, true, false, ◌&&◌}
 use borrow.Author.Tests.{not-true, not-false}
 use lib.Dec.{T}
 use Rattle.state.specs.Site.{Site, Shaped}
-use Rattle.state.specs.Stands.{site, Fits}
-use Rattle.state.specs.declared.State.{State}
+use Rattle.state.specs.Stands.{site}
 use Rattle.state.proofs.Typed.{fits_by_type, shaped_by_type}
 use Rattle.soundness.specs.Sound.{Sound}
 use Rattle.soundness.specs.Tests.{is_well_formed, is_valid, no_own_import, is_sound}
@@ -17,7 +16,7 @@ use Rattle.soundness.proofs.Laws.{sound_decided}
 use Rattle.validity.proofs.Laws.{valid_by_objects}
 use Rattle.inspection.proofs.Parts.{well_formed_by_rows, disjoint_by_rows}
 use Rattle.inspection.proofs.is_sound.Goals as goal
-use Rattle.inspection.proofs.is_sound.Goals.{After-are_disjoint, After-are_valid, After-are_well_formed, Else-not-are_disjoint, Else-not-are_well_formed, Start}
+use Rattle.inspection.proofs.is_sound.Goals.{After-are_disjoint, After-are_valid, After-are_well_formed, Else-not-are_disjoint, Else-not-are_well_formed}
 
 -- of the three tests the first that fails decides, and past two the third
 ill_formed : (s : Site) → is_well_formed s ≡ false → false ≡ is_sound s

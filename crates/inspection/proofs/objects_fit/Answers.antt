@@ -1,14 +1,13 @@
 -- `inspection::objects_fit` meets its contract. The loop's invariant: what fits so far is whether each of the first k objects from `from` on does.
 -- Assumes nothing.
-use Prim.Native.Nat.{ℕ, ◌+◌, ◌-◌, ◌≤◌}
+use Prim.Native.Nat.{ℕ, ◌+◌, ◌-◌}
 use mathlib.Core.Path.{◌≡◌, sym, ap, ◌∙◌}
 use mathlib.Core.Bool.{Bool}
 use native.Mathlib.Omega.{arith}
 use lib.ListN.{get_or}
 use Rattle.bits.specs.Bits.{bit}
 use Rattle.bits.specs.Rows.{Rows}
-use Rattle.state.specs.Below.{each_below}
-use Rattle.state.proofs.Below.{each_none, each_step, each_end}
+use Rattle.state.proofs.Below.{each_none, each_step}
 use Rattle.inspection.specs.Parts.{object_fits, object_at}
 use Rattle.inspection.proofs.objects_fit.Goals as goal
 

@@ -1,4 +1,5 @@
--- `label_tables::all_ascend` meets its contract. The loop's invariant: `ascends` says whether the first k areas are each below the next.
+-- `label_tables::all_ascend` meets its contract. The loop's invariant: `ascends` says whether the first k areas are
+-- each below the next.
 -- Assumes nothing.
 use mathlib.Core.Path.{refl, sym}
 use native.Mathlib.Omega.{arith}

@@ -1,4 +1,5 @@
--- `label_tables::text_fits` meets its contract. The loop's invariant: what fits so far is whether each of the first i bytes does.
+-- `label_tables::text_fits` meets its contract. The loop's invariant: what fits so far is whether each of the first i
+-- bytes does.
 -- Assumes nothing.
 use Prim.Native.Nat.{◌-◌, ◌≤◌}
 use mathlib.Core.Path.{◌≡◌}

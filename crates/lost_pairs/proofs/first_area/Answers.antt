@@ -5,14 +5,13 @@ use Prim.Native.Nat.{ℕ, ◌<◌}
 use mathlib.Core.Path.{◌≡◌, sym, subst, ap, ◌∙◌}
 use mathlib.Core.Bool.{◌&&◌}
 use mathlib.Core.List.{List}
-use native.Mathlib.Omega.{arith}
 use lib.Dec.{eqb}
 use lib.ListN.{get_or}
 use Rattle.bits.specs.Bits.{bit, places, lowest, without_lowest}
 use Rattle.bits.proofs.Laws.{lowest_inside, without_lowest_less}
 use Rattle.state.specs.Below.{first_below}
 use Rattle.access.specs.Answer.{unreached}
-use Rattle.lost_pairs.proofs.Lacking.{Passed, passed_none, passed_found, passed_more, passed_all}
+use Rattle.lost_pairs.proofs.Lacking.{Passed, passed_found, passed_more, passed_all}
 use Rattle.lost_pairs.proofs.first_area.Goals as goal
 use Rattle.lost_pairs.proofs.first_area.Goals.{After-lowest-area}
 

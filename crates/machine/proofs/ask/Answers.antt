@@ -1,11 +1,10 @@
 -- `machine::ask` meets its contract: the first refusal that is met decides, and with none the access layer's answer is handed on.
 -- Assumes nothing.
-use Prim.Native.Nat.{ℕ, ◌<◌}
+use Prim.Native.Nat.{ℕ}
 use mathlib.Core.Path.{◌≡◌, refl, sym, ap, ◌∙◌}
 use mathlib.Core.Bool.{Bool, true, false, ◌&&◌, not}
 use native.Mathlib.Omega.{arith}
 use borrow.Author.Tests.{ne_eqb}
-use lib.Dec.{ltb, ltb→lt}
 use Rattle.state.specs.Site.{Site, area, object, listed}
 use Rattle.state.specs.Stands.{site}
 use Rattle.access.specs.Lending.{lending}
@@ -17,10 +16,9 @@ use Rattle.state.specs.Checks.{first_met}
 use Rattle.machine.specs.Step.{question_refusals, reply_of, reply_number, reply_value, AnswerMeans}
 use Rattle.machine.specs.declared.Reply.{Reply}
 use Rattle.machine.specs.declared.Reply.TheVariants.{Refused, Answered}
-use Rattle.state.proofs.Bools.{so, and_left, and_right}
 use Rattle.state.proofs.Checks.{met, passed, none_met}
 use Rattle.machine.proofs.ask.Goals as goal
-use Rattle.machine.proofs.ask.Goals.{After-are_listed, Else-not-a-b, Else-not-is_sound, Then-not-is_sound}
+use Rattle.machine.proofs.ask.Goals.{After-are_listed, Else-not-is_sound, Then-not-is_sound}
 
 -- what is promised of a reply
 abbrev Promised : Site → (a b : ℕ) → Reply → Type 0

@@ -2,7 +2,6 @@
 -- Assumes nothing.
 use mathlib.Core.Path.{refl, sym}
 use native.Mathlib.Omega.{arith}
-use lib.ListN.{length-set}
 use Rattle.output.specs.Buffer.{laid, place_behind}
 use Rattle.output.proofs.Placing.{laid_past}
 use Rattle.output.proofs.put.Goals as goal

@@ -1,7 +1,7 @@
 -- `output::put_spaced` meets its contract: the space, and the number behind it.
 -- Assumes nothing.
-use mathlib.Core.List.{[], ◌∷◌}
-use Rattle.output.proofs.Placing.{placed_then, placed_length}
+use mathlib.Core.List.{◌∷◌}
+use Rattle.output.proofs.Placing.{placed_then}
 use Rattle.output.proofs.put_spaced.Goals as goal
 
 pub returns : goal.returns

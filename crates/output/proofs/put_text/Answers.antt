@@ -1,12 +1,11 @@
 -- `output::put_text` meets its contract. Turn i of the loop lays byte i.
 -- Assumes nothing.
 use Prim.Native.Nat.{ℕ, ◌-◌}
-use mathlib.Core.List.{List, [], ◌∷◌}
+use mathlib.Core.List.{List, ◌∷◌}
 use native.Mathlib.Numerals.{add-one}
-use native.Mathlib.Omega.{arith}
 use lib.ListN.{length, get_or, drop}
 use lib.Seq.{drop-cons, drop-length}
-use Rattle.output.proofs.Placing.{Turns, LaidTo, turns_none, turns_more, turns_all, placed_length}
+use Rattle.output.proofs.Placing.{Turns, turns_none, turns_more}
 use Rattle.output.proofs.put_text.Goals as goal
 
 byte : List ℕ → ℕ → List ℕ

@@ -1,12 +1,8 @@
 -- `output::put_text` meets its contract. Turn i of the loop lays byte i.
 -- Assumes nothing.
-use Prim.Native.Nat.{ℕ, ◌-◌}
-use mathlib.Core.List.{List, [], ◌∷◌}
-use native.Mathlib.Numerals.{add-one}
-use native.Mathlib.Omega.{arith}
-use lib.ListN.{length, get_or, drop}
-use lib.Seq.{drop-cons, drop-length}
-use Rattle.output.proofs.Placing.{Turns, LaidTo, turns_none, turns_more, turns_all, placed_length}
+use Prim.Native.Nat.{◌-◌}
+use lib.ListN.{length, drop}
+use Rattle.output.proofs.Placing.{LaidTo}
 use Rattle.output.proofs.put_text.Given as goal
 
 abbrev pub invariant-loop-i : goal.invariant-loop-i

@@ -1,5 +1,6 @@
--- `pair_tables::all_ascend` meets its contract: two bytes as one number, the first as the high byte, are in the order of the pairs. The loop's
--- invariant: `last` is the number of pair k - 1, and `ascends` says whether each pair before that one comes before the next.
+-- `pair_tables::all_ascend` meets its contract: two bytes as one number, the first as the high byte, are in the order
+-- of the pairs. The loop's invariant: `last` is the number of pair k - 1, and `ascends` says whether each pair before
+-- that one comes before the next.
 -- Assumes nothing.
 use Prim.Native.Nat.{ℕ, ◌-◌, ◌≤◌, ◌<◌}
 use mathlib.Core.Path.{◌≡◌}

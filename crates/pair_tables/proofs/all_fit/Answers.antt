@@ -1,4 +1,5 @@
--- `pair_tables::all_fit` meets its contract. The loop's invariant: what fits so far is whether each of the first k pairs does.
+-- `pair_tables::all_fit` meets its contract. The loop's invariant: what fits so far is whether each of the first k
+-- pairs does.
 -- Assumes nothing.
 use Prim.Native.Nat.{ℕ, ◌+◌, ◌-◌}
 use mathlib.Core.Path.{◌≡◌, sym, ap, ap₂, ◌∙◌}

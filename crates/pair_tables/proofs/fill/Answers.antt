@@ -1,17 +1,16 @@
--- `pair_tables::fill` meets its contract. The loop's invariant: the rows, with the one at hand in its place, are what was there with the first k
--- pairs put into it.
+-- `pair_tables::fill` meets its contract. The loop's invariant: the rows, with the one at hand in its place, are what
+-- was there with the first k pairs put into it.
 -- Assumes nothing.
 use Prim.Native.Nat.{ℕ, ◌+◌}
 use mathlib.Core.Path.{◌≡◌, ap, ◌∙◌}
 use mathlib.Core.Bool.{true}
 use mathlib.Core.List.{List}
 use native.Mathlib.Omega.{arith}
-use lib.ListN.{length, get_or, set, length-set}
+use lib.ListN.{get_or, set}
 use Rattle.bits.specs.Bits.{with_bit}
 use Rattle.bits.specs.Rows.{Rows, cells_of}
-use Rattle.bits.proofs.Cells.{cells_length}
 use Rattle.pair_tables.specs.Pairs.{first_byte, second_byte, with_some}
-use Rattle.pair_tables.proofs.Pairs.{with_more, with_length}
+use Rattle.pair_tables.proofs.Pairs.{with_more}
 use Rattle.pair_tables.proofs.AtHand.{set_as_is, at_hand}
 use Rattle.pair_tables.proofs.fill.Invariants.{AtHand}
 use Rattle.pair_tables.proofs.fill.Goals as goal

@@ -1,5 +1,5 @@
--- `pair_tables::fill` meets its contract. The loop's invariant: the rows, with the one at hand in its place, are what was there with the first k
--- pairs put into it.
+-- `pair_tables::fill` meets its contract. The loop's invariant: the rows, with the one at hand in its place, are what
+-- was there with the first k pairs put into it.
 -- Assumes nothing.
 use Prim.Native.Nat.{ℕ, ◌-◌, ◌≤◌}
 use mathlib.Core.Path.{◌≡◌}

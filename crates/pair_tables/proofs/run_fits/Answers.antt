@@ -1,4 +1,5 @@
--- `pair_tables::run_fits` meets its contract. The loop's invariant: what fits so far is whether each of the first i pairs does.
+-- `pair_tables::run_fits` meets its contract. The loop's invariant: what fits so far is whether each of the first i
+-- pairs does.
 -- Assumes nothing.
 use mathlib.Core.Path.{refl, sym}
 use native.Mathlib.Omega.{arith}

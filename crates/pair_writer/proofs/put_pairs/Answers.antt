@@ -40,7 +40,8 @@ loop-first-init c =
 
 pub loop-first-preserved : goal.loop-first-preserved
 loop-first-preserved c =
-    turn _ _ _ _ _ _ _ _ _ _ c.loop-first.invariant c.loop-first-test.true c.row_of.ensures (c.put_row-end.ensures.place, c.put_row-end.ensures.buffer)
+    let put = c.put_row-end.ensures in
+    turn _ _ _ _ _ _ _ _ _ _ c.loop-first.invariant c.loop-first-test.true c.row_of.ensures (put.place, put.buffer)
 
 pub returns : goal.returns
 returns c =

@@ -3,7 +3,7 @@
 -- Assumes nothing.
 use Prim.Native.Nat.{ℕ, ◌<◌}
 use mathlib.Core.Path.{◌≡◌, sym, subst}
-use mathlib.Core.List.{List, [], ◌∷◌}
+use mathlib.Core.List.{List, ◌∷◌}
 use Rattle.bits.specs.Bits.{lowest, without_lowest}
 use Rattle.bits.proofs.Laws.{without_lowest_less}
 use Rattle.output.proofs.Placing.{Placed}
@@ -27,8 +27,10 @@ loop-rest-smaller c =
 
 pub loop-rest-preserved : goal.loop-rest-preserved
 loop-rest-preserved c =
-    turn _ _ _ _ _ _ _ _ _ _ _ _ _ c.loop-rest-test.true c.loop-rest.invariant (c.put-behind_first.ensures.place, c.put-behind_first.ensures.buffer)
-    c.lowest.ensures.equation (c.put-end.ensures.place, c.put-end.ensures.buffer) c.without_lowest-others.ensures
+    let first = c.put-behind_first.ensures in
+    let second = c.put-end.ensures in
+    turn _ _ _ _ _ _ _ _ _ _ _ _ _ c.loop-rest-test.true c.loop-rest.invariant (first.place, first.buffer)
+    c.lowest.ensures.equation (second.place, second.buffer) c.without_lowest-others.ensures
 
 pub returns : goal.returns
 returns c =

@@ -1,14 +1,10 @@
 -- `recipes::is_misformed` meets its contract. The loop's invariant: none of the first k instructions is misformed.
 -- Assumes nothing.
-use Prim.Native.Nat.{ℕ, ◌-◌, ◌≤◌}
-use mathlib.Core.Path.{◌≡◌, sym, ap, ◌∙◌}
-use mathlib.Core.Bool.{Bool, true, false, ◌||◌, not}
-use mathlib.Core.List.{List}
-use native.Mathlib.Omega.{arith}
-use lib.ListN.{length}
+use Prim.Native.Nat.{◌-◌, ◌≤◌}
+use mathlib.Core.Path.{◌≡◌}
+use mathlib.Core.Bool.{false}
 use Rattle.state.specs.Below.{some_below}
-use Rattle.state.proofs.Below.{some_none, some_goes, some_stop, some_done}
-use Rattle.recipes.specs.Recipe.{instruction_count, recipe_sized, misformed_at, misformed}
+use Rattle.recipes.specs.Recipe.{misformed_at}
 use Rattle.recipes.proofs.is_misformed.Given as goal
 
 abbrev pub invariant-loop-k : goal.invariant-loop-k

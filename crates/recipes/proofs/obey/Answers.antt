@@ -2,14 +2,13 @@
 -- the recipe gives; and the state reached is sound.
 -- Assumes nothing.
 use mathlib.Core.Bool.{not}
-use Prim.Native.Nat.{◌-◌, ◌≤◌}
+use Prim.Native.Nat.{◌-◌}
 use mathlib.Core.Path.{◌≡◌, sym, ap, ◌∙◌}
 use mathlib.Core.Bool.{true, false}
 use native.Mathlib.Omega.{arith}
-use Rattle.state.specs.Site.{Site, verdict}
+use Rattle.state.specs.Site.{verdict}
 use Rattle.state.specs.Stands.{site}
 use Rattle.state.proofs.Bools.{so, not_so, holds, is_true, is_false}
-use Rattle.soundness.specs.Sound.{Sound}
 use Rattle.soundness.specs.Tests.{is_sound}
 use Rattle.instructions.specs.Instructions.{Bytes, four_bytes}
 use Rattle.successors.specs.Successor.{successor_of}
@@ -17,7 +16,7 @@ use Rattle.machine.specs.Step.{step_refusal, step_of}
 use Rattle.recipes.specs.Recipe.{misformed}
 use Rattle.recipes.specs.declared.FourBytes.{FourBytes}
 use Rattle.machine.proofs.Decide.{misfit_number, found_number, refused_step, accepted_step}
-use Rattle.recipes.proofs.Running.{not_unsound, Runs, begins, goes_on, stays_sound, stops, ends}
+use Rattle.recipes.proofs.Running.{not_unsound, begins, goes_on, stays_sound, stops, ends}
 use Rattle.recipes.proofs.Laws.{unsound_recipe, misformed_recipe, whole_count}
 use Rattle.recipes.proofs.obey.Goals as goal
 use Rattle.recipes.proofs.obey.Goals.{After-refusal_of-refusal, After-successor-next, Else-is_misformed, Else-not-is_sound, Then-not-is_sound}

@@ -1,11 +1,10 @@
 -- `refusals::first_of` meets its contract. The loop's invariant: none of the first i conditions is met.
 -- Assumes nothing.
-use Prim.Native.Nat.{ℕ, zero, suc, ◌+◌, ◌-◌, ◌≤◌, ◌<◌}
+use Prim.Native.Nat.{ℕ, zero, suc, ◌-◌, ◌≤◌, ◌<◌}
 use mathlib.Core.Path.{◌≡◌, sym, ap, ◌∙◌}
 use mathlib.Core.Bool.{Bool, true, false, not}
-use mathlib.Core.List.{List, [], ◌∷◌}
+use mathlib.Core.List.{List, ◌∷◌}
 use native.Mathlib.Omega.{arith}
-use native.Mathlib.Nat.{le_of_suc-le-suc}
 use lib.ListN.{length, get_or}
 use Rattle.state.specs.Below.{each_below}
 use Rattle.state.specs.Checks.{◌when◌, first_met}
@@ -15,7 +14,6 @@ use Rattle.state.proofs.Checks.{met, passed, none_met}
 use Rattle.refusals.specs.Parts.{rows_of}
 use Rattle.refusals.proofs.first_of.Goals as goal
 use Rattle.refusals.proofs.first_of.Invariants.{unmet}
-use Rattle.refusals.proofs.first_of.Goals.{At-loop-i, Start}
 
 -- the first condition that is met is at place i
 hit : (ns : List ℕ) (bs : List Bool) (i : ℕ) → i < length bs → length bs ≤ length ns

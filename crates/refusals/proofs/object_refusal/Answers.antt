@@ -1,18 +1,16 @@
 -- `refusals::object_refusal` meets its contract: in each arm the relation that is changed is that of the state which the instruction would give.
 -- Assumes nothing.
 use Prim.Native.Nat.{ℕ}
-use mathlib.Core.Path.{◌≡◌, refl, sym, ap, subst, ◌∙◌}
+use mathlib.Core.Path.{◌≡◌, sym, ◌∙◌}
 use mathlib.Core.Bool.{Bool, true, false}
-use mathlib.Core.List.{[]}
-use lib.Dec.{T}
 use Rattle.bits.specs.Rows.{cells_of}
 use Rattle.state.specs.Checks.{first_met}
 use Rattle.state.specs.Site.{Site, site_of}
 use Rattle.validity.specs.Parts.{site_for, valid_for}
 use Rattle.instructions.specs.declared.Target.{Target}
-use Rattle.instructions.specs.declared.Target.TheVariants.{TheArea, Owner, Definition, Structure, Import, Export}
+use Rattle.instructions.specs.declared.Target.TheVariants.{Definition, Import}
 use Rattle.successors.specs.Successor.{changed}
-use Rattle.refusals.specs.Parts.{of_object, result_checks}
+use Rattle.refusals.specs.Parts.{result_checks}
 use Rattle.refusals.proofs.Alone.{none}
 use Rattle.refusals.proofs.object_refusal.Goals as goal
 use Rattle.refusals.proofs.object_refusal.Goals.{Start}

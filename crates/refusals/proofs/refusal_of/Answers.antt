@@ -9,11 +9,10 @@ use lib.Dec.{T, eqb}
 use borrow.Author.Tests.{eq-eqb, ne_eqb}
 use Rattle.state.specs.Checks.{Check, first_met}
 use Rattle.state.specs.Site.{Site}
-use Rattle.state.specs.Stands.{site, Fits}
+use Rattle.state.specs.Stands.{site}
 use Rattle.state.specs.declared.State.{State}
 use Rattle.state.proofs.Bools.{holds}
 use Rattle.state.proofs.Checks.{first_of_two}
-use Rattle.state.proofs.Typed.{fits_by_type}
 use Rattle.readings.specs.Readings.{seen_of}
 use Rattle.readings.specs.declared.Seen.{Seen}
 use Rattle.validity.specs.Parts.{site_for, valid_for}
@@ -27,7 +26,7 @@ use Rattle.refusals.specs.Refusals.{early_checks}
 use Rattle.refusals.specs.Parts.{of_object, result_checks, found_checks}
 use Rattle.refusals.proofs.Alone.{none}
 use Rattle.refusals.proofs.refusal_of.Goals as goal
-use Rattle.refusals.proofs.refusal_of.Goals.{After-early_refusal-early, After-look-seen, After-object_refusal-arg-then-is_of_object-3-1, Else-is_of_object, Start, Then-is_of_object}
+use Rattle.refusals.proofs.refusal_of.Goals.{Else-is_of_object, Then-is_of_object}
 
 module _ (s : Site) (x : Instruction) (u a b : ℕ) {v : Seen} {r : Rule} {m : ℕ} (seen : v ≡ seen_of s u a b) (row : r ≡ rule x) (e : m ≡ first_met (early_checks v r)) where
   abbrev late : List Check

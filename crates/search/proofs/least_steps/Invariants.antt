@@ -1,19 +1,15 @@
 -- `search::least_steps` meets its contract. The loop's invariant: `reached` has the areas within n steps, `layer` those that are reached first in n,
 -- and the area is not reached.
 -- Assumes nothing.
-use Prim.Native.Nat.{ℕ, suc, ◌-◌, ◌≤◌, zero-le}
-use mathlib.Core.Path.{◌≡◌, sym, ap, ◌∙◌}
-use mathlib.Core.Bool.{Bool, true, false}
-use native.Mathlib.Omega.{arith}
-use native.Mathlib.Numerals.{add-one}
-use borrow.Author.Tests.{eqb-true}
-use Rattle.bits.specs.Bits.{bit, is_empty}
+use Prim.Native.Nat.{◌-◌, ◌≤◌}
+use mathlib.Core.Path.{◌≡◌}
+use mathlib.Core.Bool.{false}
+use Rattle.bits.specs.Bits.{bit}
 use Rattle.bits.specs.Rows.{cells_of}
 use Rattle.relations.specs.Relations.{transpose}
-use Rattle.access.specs.Answer.{longest, answer_within}
-use Rattle.access.specs.declared.Answer.TheVariants.{NoAccess}
+use Rattle.access.specs.Answer.{longest}
 use Rattle.search.specs.Rounds.{move_by}
-use Rattle.search.proofs.Layers.{reached_row, layer_row, first_row, round, reach, all_reached, last_reached, found_first, found_now, never, not_more}
+use Rattle.search.proofs.Layers.{reached_row, layer_row}
 use Rattle.search.proofs.least_steps.Given as goal
 
 abbrev pub invariant-loop-n : goal.invariant-loop-n

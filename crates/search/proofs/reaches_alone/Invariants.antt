@@ -1,17 +1,13 @@
 -- `search::reaches_alone` meets its contract. The loop's invariant: `reached` has the areas within n steps, and `layer` those that are reached first in n.
 -- Assumes nothing.
-use Prim.Native.Nat.{ℕ, suc, ◌-◌, ◌≤◌, zero-le}
-use mathlib.Core.Path.{◌≡◌, sym, ap, ◌∙◌}
-use mathlib.Core.Bool.{Bool, true}
-use native.Mathlib.Omega.{arith}
-use native.Mathlib.Numerals.{add-one}
-use borrow.Author.Tests.{eqb-true}
-use Rattle.bits.specs.Bits.{bit, is_empty, is_subset}
+use Prim.Native.Nat.{◌-◌, ◌≤◌}
+use mathlib.Core.Path.{◌≡◌}
+use Rattle.bits.specs.Bits.{bit}
 use Rattle.bits.specs.Rows.{cells_of}
 use Rattle.relations.specs.Relations.{transpose}
 use Rattle.access.specs.Answer.{longest}
-use Rattle.search.specs.Rounds.{move_by, reachable}
-use Rattle.search.proofs.Layers.{reached_row, layer_row, first_row, round, reach, within_found, within_ended, within_last}
+use Rattle.search.specs.Rounds.{move_by}
+use Rattle.search.proofs.Layers.{reached_row, layer_row}
 use Rattle.search.proofs.reaches_alone.Given as goal
 
 abbrev pub invariant-loop-n : goal.invariant-loop-n

@@ -1,4 +1,5 @@
--- `site_file::read` meets its contract: the header's refusal, then 26 and 27, then those of the state; the first that is met decides.
+-- `site_file::read` meets its contract: the header's refusal, then 26 and 27, then those of the state; the first that
+-- is met decides.
 -- Assumes nothing.
 use Prim.Native.Nat.{ℕ}
 use mathlib.Core.Path.{◌≡◌, refl, sym, ap, ap₂, subst, ◌∙◌}
@@ -49,7 +50,8 @@ module _ (file : List ℕ) where
   behind_header : {n : ℕ} → n ≡ first_met (header_checks file) → n ≡ 0 → file_refusal file ≡ first_met later
   behind_header {n} e z = of_header e ∙ ap (λ (b : Bool). cond b (first_met later) n) (eq-eqb n 0 z)
 
-  behind_tables : {n : ℕ} {s : Site} → s ≡ state_in file → n ≡ first_met (state_checks s (part file labels)) → file_refusal file ≡ first_met of_state → n ≡ file_refusal file
+  behind_tables : {n : ℕ} {s : Site} → s ≡ state_in file → n ≡ first_met (state_checks s (part file labels))
+      → file_refusal file ≡ first_met of_state → n ≡ file_refusal file
   behind_tables h e m = e ∙ ap (λ (x : Site). first_met (state_checks x (part file labels))) h ∙ sym m
 
   -- what a test that is passed says of the refusal
@@ -57,8 +59,8 @@ module _ (file : List ℕ) where
       → file_refusal file ≡ first_met ((27 when not (tables_ascend file)) ∷ of_state)
   fitting m e t = m ∙ passed _ _ (ap not (sym e ∙ t))
 
-  ascending : {b : Bool} → file_refusal file ≡ first_met ((27 when not (tables_ascend file)) ∷ of_state) → b ≡ tables_ascend file → b ≡ true
-      → file_refusal file ≡ first_met of_state
+  ascending : {b : Bool} → file_refusal file ≡ first_met ((27 when not (tables_ascend file)) ∷ of_state)
+      → b ≡ tables_ascend file → b ≡ true → file_refusal file ≡ first_met of_state
   ascending m e t = m ∙ passed _ _ (ap not (sym e ∙ t))
 
 pub returns-then-header-ne0 : goal.returns-then-header-ne0

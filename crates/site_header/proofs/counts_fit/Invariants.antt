@@ -1,4 +1,5 @@
--- `site_header::counts_fit` meets its contract. The loop's invariant: what fits so far, and the counts that are left, decide.
+-- `site_header::counts_fit` meets its contract. The loop's invariant: what fits so far, and the counts that are left,
+-- decide.
 -- Assumes nothing.
 use Prim.Native.Nat.{◌-◌, ◌≤◌}
 use mathlib.Core.Path.{◌≡◌}

@@ -9,7 +9,8 @@ use Rattle.state.proofs.Checks.{met, passed, none_met}
 use Rattle.site_format.specs.Format.{header_size, field, version, version_at, length_at}
 use Rattle.site_header.specs.Header.{counts_fit}
 use Rattle.site_header.proofs.header_refusal.Goals as goal
-use Rattle.site_header.proofs.header_refusal.Goals.{Else-field_at-file, Else-field_at-ne-VERSION, Else-file-lt-HEADER_SIZE, Else-not-counts_fit}
+use Rattle.site_header.proofs.header_refusal.Goals.{Else-file-lt-HEADER_SIZE, Else-field_at-ne-VERSION}
+use Rattle.site_header.proofs.header_refusal.Goals.{Else-field_at-file, Else-not-counts_fit}
 
 -- what each test that is passed says of its check
 long : (c : Else-file-lt-HEADER_SIZE) → ltb (length c.args.file.now) header_size ≡ false
@@ -22,7 +23,7 @@ stated : (c : Else-field_at-file) → let file = c.args.file.now in not (eqb (fi
 stated c = ap not (eq-eqb _ _ (sym c.field_at-2.ensures ∙ c.if-field_at-file.false))
 
 few : (c : Else-not-counts_fit) → not (counts_fit c.args.file.now) ≡ false
-few c = sym (ap not c.counts_fit.ensures) ∙ (ap not c.if-not-counts_fit.false)
+few c = sym (ap not c.counts_fit.ensures) ∙ ap not c.if-not-counts_fit.false
 
 pub returns-then-file-lt-HEADER_SIZE : goal.returns-then-file-lt-HEADER_SIZE
 returns-then-file-lt-HEADER_SIZE c = sym (met _ _ (lt-ltb _ _ c.if-file-lt-HEADER_SIZE.true))
@@ -46,7 +47,7 @@ returns-then-not-counts_fit c =
     (passed _ _ (long (goal.at.returns-then-not-counts_fit c).Else-file-lt-HEADER_SIZE)
     ∙ passed _ _ (known (goal.at.returns-then-not-counts_fit c).Else-field_at-ne-VERSION)
     ∙ passed _ _ (stated (goal.at.returns-then-not-counts_fit c).Else-field_at-file)
-    ∙ met _ _ (sym (ap not c.counts_fit.ensures) ∙ (ap not c.if-not-counts_fit.true)))
+    ∙ met _ _ (sym (ap not c.counts_fit.ensures) ∙ ap not c.if-not-counts_fit.true))
 
 pub returns-then-not-is_placed : goal.returns-then-not-is_placed
 returns-then-not-is_placed c =
@@ -55,7 +56,7 @@ returns-then-not-is_placed c =
     ∙ passed _ _ (known (goal.at.returns-then-not-is_placed c).Else-field_at-ne-VERSION)
     ∙ passed _ _ (stated (goal.at.returns-then-not-is_placed c).Else-field_at-file)
     ∙ passed _ _ (few (goal.at.returns-then-not-is_placed c).Else-not-counts_fit)
-    ∙ met _ _ (sym (ap not c.is_placed.ensures) ∙ (ap not c.if-not-is_placed.true)))
+    ∙ met _ _ (sym (ap not c.is_placed.ensures) ∙ ap not c.if-not-is_placed.true))
 
 pub returns : goal.returns
 returns c =
@@ -64,5 +65,5 @@ returns c =
     ∙ passed _ _ (known (goal.at.returns c).Else-field_at-ne-VERSION)
     ∙ passed _ _ (stated (goal.at.returns c).Else-field_at-file)
     ∙ passed _ _ (few (goal.at.returns c).Else-not-counts_fit)
-    ∙ passed _ _ (sym (ap not c.is_placed.ensures) ∙ (ap not c.if-not-is_placed.false))
+    ∙ passed _ _ (sym (ap not c.is_placed.ensures) ∙ ap not c.if-not-is_placed.false)
     ∙ none_met)

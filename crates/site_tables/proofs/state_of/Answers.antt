@@ -1,5 +1,5 @@
--- `site_tables::state_of` meets its contract: the relations start empty and get the pairs of their tables, and the lists
--- are read off them.
+-- `site_tables::state_of` meets its contract: the relations start empty and get the pairs of their tables, and the
+-- lists are read off them.
 -- Assumes nothing.
 use Prim.Native.Nat.{ℕ}
 use mathlib.Core.Path.{◌≡◌, ap, ◌∙◌}

@@ -6,7 +6,7 @@ use lib.ListN.{length}
 use Rattle.state.specs.Stands.{site}
 use Rattle.site_writer.proofs.Fields.{fields_fit, fields_are}
 use Rattle.site_writer.proofs.fields_of.Goals as goal
-use Rattle.site_writer.proofs.fields_of.Goals.{After-pair_count-definitions, After-pair_count-exports, After-pair_count-imports, After-pair_count-owners, After-pair_count-structure}
+use Rattle.site_writer.proofs.fields_of.Goals.{After-pair_count-exports}
 
 -- all offsets and the length have 16 bits
 fits : (c : After-pair_count-exports)
@@ -14,8 +14,8 @@ fits : (c : After-pair_count-exports)
     + c.pair_count-imports.result * 2 + c.pair_count-exports.result * 2 + length c.args.labels.now ≤ 65535
 unfolding site
 fits c =
-    fields_fit (site c.args.s) _ _ _ _ _ _ c.pair_count-owners.ensures c.pair_count-definitions.ensures c.pair_count-structure.ensures
-    c.pair_count-imports.ensures c.pair_count-exports.ensures c.requires
+    fields_fit (site c.args.s) _ _ _ _ _ _ c.pair_count-owners.ensures c.pair_count-definitions.ensures
+    c.pair_count-structure.ensures c.pair_count-imports.ensures c.pair_count-exports.ensures c.requires
 
 pub overflow_cast-entries : goal.overflow_cast-entries
 overflow_cast-entries c = omega (arith, fits (goal.at.overflow_cast-entries c).After-pair_count-exports)
@@ -59,5 +59,5 @@ overflow_add-length c = omega (arith, fits (goal.at.overflow_add-length c).After
 pub returns : goal.returns
 unfolding site
 returns c =
-    fields_are (site c.args.s) c.args.labels.now _ _ _ _ _ c.pair_count-owners.ensures c.pair_count-definitions.ensures c.pair_count-structure.ensures
-    c.pair_count-imports.ensures c.pair_count-exports.ensures
+    fields_are (site c.args.s) c.args.labels.now _ _ _ _ _ c.pair_count-owners.ensures c.pair_count-definitions.ensures
+    c.pair_count-structure.ensures c.pair_count-imports.ensures c.pair_count-exports.ensures

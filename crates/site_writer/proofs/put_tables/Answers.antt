@@ -1,9 +1,9 @@
--- `site_writer::put_tables` meets its contract: six tables, one behind the other. The body of a file nests to the right,
--- so they are put together from the last.
+-- `site_writer::put_tables` meets its contract: six tables, one behind the other. The body of a file nests to the
+-- right, so they are put together from the last.
 -- Assumes nothing.
 use Prim.Native.Nat.{ℕ}
 use mathlib.Core.Path.{sym, subst}
-use mathlib.Core.List.{List, [], ◌++◌, append-nil}
+use mathlib.Core.List.{List, ◌++◌, append-nil}
 use Rattle.output.proofs.Placing.{Placed, placed_then, placed_known}
 use Rattle.state.specs.Stands.{site}
 use Rattle.site_writer.proofs.put_tables.Goals as goal
