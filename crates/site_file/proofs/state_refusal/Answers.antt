@@ -29,37 +29,21 @@ module _ (s : Site) (file : List ℕ) (held : s ≡ state_in file) where
   ill_formed : {told : Bool} → told ≡ is_well_formed s → not told ≡ true → condition ≡ true
   ill_formed = by_record s lists shape (part file labels)
 
-<<<<<<< HEAD
-  labelled : {told listed : Bool} {table : List ℕ} (v : Bool) → told ≡ is_well_formed s → listed ≡ labels_listed s.areas table → table ≡ part file labels → not told ≡ false → not listed ≡ v → condition ≡ v
-  labelled v e k t = by_labels s lists shape (part file labels) v e (k ∙ ap (labels_listed s.areas) t)
-
--- 28, where the record is well-formed: the labels decide
-by_listed : (c : After-labels_listed) (v : Bool) → not c.labels_listed.result ≡ v
-    → condition (site c.args.s) c.args.file.now c.requires ≡ v
-by_listed c v e =
-    labelled _ _ c.requires v c.is_well_formed.ensures
-    c.labels_listed.ensures c.labels.ensures (ap not c.if-not-is_well_formed.false) e
-=======
   -- where the record is well-formed, the labels decide
   labelled : {told listed : Bool} {table : List ℕ} (v : Bool) → told ≡ is_well_formed s → listed ≡ labels_listed s.areas table
       → table ≡ part file labels → told ≡ true → not listed ≡ v → condition ≡ v
   labelled v e k t w = by_labels s lists shape (part file labels) v e (k ∙ ap (labels_listed s.areas) t) (ap not w)
->>>>>>> f56b3d263663877bd192d0fc575146d80b1b04f5
 
 pub returns-then-not-is_well_formed : goal.returns-then-not-is_well_formed
 returns-then-not-is_well_formed c =
     sym (met _ _ (ill_formed _ _ c.requires c.is_well_formed.ensures (ap not c.if-not-is_well_formed.true)))
 
 pub returns-then-not-labels_listed : goal.returns-then-not-labels_listed
-<<<<<<< HEAD
-returns-then-not-labels_listed c = sym (met _ _ (by_listed (goal.at.returns-then-not-labels_listed c).After-labels_listed true (ap not c.if-not-labels_listed.true)))
-=======
 returns-then-not-labels_listed c =
     let told = c.is_well_formed.ensures in
     let formed = c.if-not-is_well_formed.false in
     let unlisted = ap not c.if-not-labels_listed.true in
     sym (met _ _ (labelled _ _ c.requires true told c.labels_listed.ensures c.labels.ensures formed unlisted))
->>>>>>> f56b3d263663877bd192d0fc575146d80b1b04f5
 
 -- 29, from what was told of the state
 by_entries : (s : Site) {valid no_own : Bool} (v w : Bool) → valid ≡ is_valid s → no_own ≡ no_own_import s
@@ -69,20 +53,6 @@ by_entries s v w e k n m = ap₂ ◌||◌ (sym (ap not e) ∙ n) (sym (ap not k)
 -- past 28, validity decides 29, and behind it the imports
 pub returns-then-not-is_valid : goal.returns-then-not-is_valid
 returns-then-not-is_valid c =
-<<<<<<< HEAD
-    sym (passed _ _ (by_listed (goal.at.returns-then-not-is_valid c).After-labels_listed false (ap not c.if-not-labels_listed.false)) ∙ met _ _ (by_entries _ true _ c.is_valid.ensures.equation refl (ap not c.if-not-is_valid.true) refl))
-
-pub returns-then-not-has_no_own_import : goal.returns-then-not-has_no_own_import
-returns-then-not-has_no_own_import c =
-    sym (passed _ _ (by_listed (goal.at.returns-then-not-has_no_own_import c).After-labels_listed false (ap not c.if-not-labels_listed.false))
-    ∙ met _ _ (by_entries _ false true c.is_valid.ensures.equation c.has_no_own_import.ensures.equation (ap not c.if-not-is_valid.false) (ap not c.if-not-has_no_own_import.true)))
-
-pub returns : goal.returns
-returns c =
-    sym (passed _ _ (by_listed (goal.at.returns c).After-labels_listed false (ap not c.if-not-labels_listed.false))
-    ∙ passed _ _ (by_entries _ false false c.is_valid.ensures.equation c.has_no_own_import.ensures.equation (ap not c.if-not-is_valid.false) (ap not c.if-not-has_no_own_import.false))
-    ∙ none_met)
-=======
     let told = c.is_well_formed.ensures in
     let formed = c.if-not-is_well_formed.false in
     let listed = ap not c.if-not-labels_listed.false in
@@ -113,4 +83,3 @@ returns c =
     let second = ap not c.if-not-has_no_own_import.false in
     let none = by_entries _ false false valid no_own (ap not c.if-not-is_valid.false) second in
     sym (passed _ _ past ∙ passed _ _ none ∙ none_met)
->>>>>>> f56b3d263663877bd192d0fc575146d80b1b04f5
