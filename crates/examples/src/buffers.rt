@@ -40,7 +40,7 @@ fn too_long(rt: &impl Print, input: &[u8]) -> io::Result<()> {
 // Both, each into its buffers.
 pub fn run(rt: &(impl Print + Input)) -> io::Result<()> {
     let mut input = [0u8; 4096];
-    let count = reading::read_full(&mut rt.reader(), &mut input)?;
+    let count = input_reader::read_full(&mut rt.reader(), &mut input)?;
     session(rt, &input[0..count])?;
     too_long(rt, &[0u8; 65537])
 }
