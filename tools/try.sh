@@ -13,9 +13,10 @@ trap 'rm -rf "$room"' EXIT
 
 # The crate and those below it, a line each; some more than once.
 with_below() {
-    local below
+    local below=() it
     echo "$1"
-    for below in $(sed -nE "s/#.*//; s/^$1( [^:]*)?:(.*)/\2/p" crates.txt); do with_below "$below"; done
+    read -ra below < <(sed -nE "s/#.*//; s/^$1( [^:]*)?:(.*)/\2/p" crates.txt)
+    for it in "${below[@]}"; do with_below "$it"; done
 }
 
 # A sum of what a check of the crate with the edit reads: the kit, the edit, and the files of the crate and of those
