@@ -4,16 +4,21 @@ PREFIX = /usr/local
 DESTDIR =
 CFLAGS = -std=c99 -O2 -Wall -Wextra -pedantic
 
-.PHONY: run lib install examples test edits bench clean
+.PHONY: run lib program install examples test edits bench clean
 
 run:
 	@tools/run.sh
 
 lib:
 	@mkdir -p target/lib
-	@rt staticlib capi >target/staticlib.log 2>&1 || { cat target/staticlib.log; exit 1; }
-	@cmp -s target/staticlib/libcapi.a target/lib/libpanelrights.a || \
-		cp target/staticlib/libcapi.a target/lib/libpanelrights.a
+	@(cd crates/capi && rt lib) >target/lib.log 2>&1 || { cat target/lib.log; exit 1; }
+	@cmp -s crates/capi/out/libcapi.a target/lib/libpanelrights.a || \
+		cp crates/capi/out/libcapi.a target/lib/libpanelrights.a
+
+program:
+	@mkdir -p target/bin
+	@(cd crates/panelrights && rt run </dev/null) >target/program.log 2>&1 || { cat target/program.log; exit 1; }
+	@cp crates/panelrights/out/panelrights target/bin
 
 # The file VERSION has the project's version: docs/DECISIONS.md (66) says when it moves.
 install: lib
@@ -48,8 +53,7 @@ test:
 edits:
 	@tools/edits.sh
 
-bench: lib
-	@rt check panelrights >target/panelrights.log 2>&1 || { cat target/panelrights.log; exit 1; }
+bench: lib program
 	@cd bench && CARGO_TARGET_DIR=../target/cargo cargo run --quiet --locked --release
 
 clean:

@@ -151,15 +151,15 @@ compared=$(sed -nE 's/^ *CHECK_NUMBER\((PANELRIGHTS_[A-Z_]+), [0-9]+\);$/\1/p' t
 refusals=$(sed -n '/^enum panelrights_refusal {/,/^};/s/.* = \([0-9]*\).*/\1/p' include/panelrights.h | sort -n)
 allowed=$({
     printf '0\n31\n'
-    numbers_of furtherNumbers crates/refusals/specs/Refusals.antt
-    numbers_of stepNumbers crates/refusals/specs/Refusals.antt
-    numbers_of recipeNumbers crates/recipe_guarantees/specs/Claims.antt
-    numbers_of questionNumbers crates/machine/specs/Step.antt
-    numbers_of explainNumbers crates/reasons/specs/Explanation.antt
-    numbers_of readNumbers crates/site_file/specs/Reading.antt
-    numbers_of writeNumbers crates/site_encoding/specs/Writer.antt
+    numbers_of further_numbers crates/refusals/specs/Refusals.antt
+    numbers_of step_numbers crates/refusals/specs/Refusals.antt
+    numbers_of recipe_numbers crates/recipe_guarantees/specs/Claims.antt
+    numbers_of question_numbers crates/machine/specs/Step.antt
+    numbers_of explain_numbers crates/reasons/specs/Explanation.antt
+    numbers_of read_numbers crates/site_file/specs/Reading.antt
+    numbers_of write_numbers crates/site_encoding/specs/Writer.antt
 } | sort -un)
-lists='stepNumbers, recipeNumbers, questionNumbers, explainNumbers, readNumbers and writeNumbers'
+lists='step_numbers, recipe_numbers, question_numbers, explain_numbers, read_numbers and write_numbers'
 [ "$refusals" = "$allowed" ] || fail "the header has other refusals than $lists"
 packaged=$({ echo 0; sed -nE 's/^    [A-Za-z]+ = ([0-9]+): ".*/\1/p' bindings/rust/src/refusal.rs; } | sort -n)
 [ "$packaged" = "$allowed" ] || fail "the Rust package has other refusals than $lists"
@@ -173,7 +173,7 @@ grep -qxF "pub const MOST_STEPS: u8 = $longest;" bindings/rust/src/state.rs ||
     fail "the Rust package's limit of steps is not $longest"
 
 # So is the length of the longest site file; the Rust package's number has an underscore in it.
-most=$(sed -n 's/^mostBytes = //p' crates/site_encoding/specs/Claims.antt)
+most=$(sed -n 's/^most_bytes = //p' crates/site_encoding/specs/Claims.antt)
 [ -n "$most" ] || fail 'crates/site_encoding/specs/Claims.antt does not say the length of the longest file'
 grep -qE "^ *PANELRIGHTS_FILE_MOST = $most," include/panelrights.h ||
     fail "the header's longest file is not of $most bytes"
@@ -181,7 +181,7 @@ packaged=$(sed -n 's/^pub const FILE_MOST: usize = \([0-9_]*\);$/\1/p' bindings/
 [ "$packaged" = "$most" ] || fail "the Rust package's longest file is not of $most bytes"
 
 # And the length of a buffer for an explanation.
-least=$(sed -n 's/^explainRefusals .*ltb (length buffer) \([0-9]*\)).*/\1/p' crates/reasons/specs/Explanation.antt)
+least=$(sed -n 's/^explain_refusals .*ltb (length buffer) \([0-9]*\)).*/\1/p' crates/reasons/specs/Explanation.antt)
 [ -n "$least" ] || fail 'crates/reasons/specs/Explanation.antt does not say how long a buffer must be'
 grep -qE "^ *PANELRIGHTS_EXPLAIN_BYTES = $least\b" include/panelrights.h ||
     fail "the header's buffer for an explanation is not of $least bytes"

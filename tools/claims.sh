@@ -31,7 +31,7 @@ judge_claims() {
             stated = ""
         }
         function take_import(path,    names, count, i) {
-            if (sub("^Rattle·" crate "(·specs[.]specs|[.]specs)[.]", "", path) == 0) return
+            if (sub("^Rattle[.]" crate "[.]specs[.]", "", path) == 0) return
             if (path ~ /[.]\{/) {
                 names = path; sub(/.*[.]\{/, "", names); sub(/\}.*/, "", names); sub(/[.]\{.*/, "", path)
                 count = split(names, name, /, */)

@@ -4,9 +4,10 @@
 # (machine::step, state::State::empty), or a claim of any crate (claim Demand3). Where the fault is planted in a private
 # function that those call, its name follows in parentheses: '# lines::first_line (extended): SENTENCE'. It fails where
 # a line is not so, where it names what is not there, and where fewer than two faults name a public function of a
-# library. With --check it counts the edits and their faults, and prints no table. With --refused it reads what the
-# prover said of each edit (target/must-fail): each function that is named must be refused, where an edit plants several
-# faults none of theirs because of another, and no edit only because the proof file no longer fits the code.
+# library. With --check it counts the edits and their faults, and prints no table. With --refused it tries each edit that
+# names a function (tools/try.sh), several side by side, and reads what the prover says: each function that is named
+# must be refused, where an edit plants several faults none of theirs because of another, and none only because its
+# proof file names what the edit took away.
 set -euo pipefail
 export LC_ALL=C
 cd "$(dirname "$0")/.."
@@ -34,7 +35,7 @@ fault() {
 }
 
 listed_crates() {
-    sed 's/#.*//; s/:.*//; s/[[:space:]]//g; /^$/d' crates.txt
+    sed -nE 's/#.*//; s/^([a-z0-9_]+)[^:]*:.*/\1/p' crates.txt
 }
 
 stated_claims() {
@@ -76,9 +77,23 @@ check_refused() {
         said=$(said_of "$log" "$callee")
     done
     case $said in
-    'not proved'* | 'no proof'*) ;;
+    'not proved'* | 'no proof'*) ! is_unread "$log" "$name" || fault "$edit: the proof of $name no longer fits, see $log" ;;
     *) fault "$edit: $name is not refused: '$said' in $log" ;;
     esac
+}
+
+# Are all errors in the function's proof files of names that are gone?
+is_unread() {
+    local folder=${2#*::} errors
+    errors=$(grep -E "^\./proofs/\+?${folder//:://}/[A-Za-z]+\.antt:[0-9]+:[0-9]+: error" "$1" || true)
+    [ -n "$errors" ] && ! grep -qvE 'has no field|is not in scope|has no `|was not admitted' <<<"$errors"
+}
+
+# Tries the edits that name a function, several side by side.
+try_edits() {
+    grep -lE "^# (claim $word, )*$word::" crates/*/must-fail/*.edit |
+        sed -E 's|^crates/([^/]*)/must-fail/(.*)\.edit$|\1/\2|' |
+        xargs -P "$(nproc)" -n 1 tools/try.sh >/dev/null
 }
 
 # The functions that the faults of an edit are planted in, with a comma before and behind each.
@@ -128,11 +143,10 @@ take_edit() {
     local crate=$1 edit=$2 text label lines line row log places=,
     text=$(<"$edit")
     label=${edit##*/} label=${label%.edit}
-    log=target/must-fail/$crate/$label/.log
+    log=target/edits/$crate/$label.log
     mapfile -t lines < <(sed '/^#/!Q' "$edit")
     [ "${#lines[@]}" -gt 0 ] || fault "$edit: it does not begin with '# WHAT: SENTENCE'"
     [ "${#lines[@]}" -le 1 ] || places=$(places_of "$crate" "${lines[@]}")
-    ! $refused || ! grep -q 'can be named from here' "$log" || fault "$edit: the proof file no longer fits, see $log"
     for line in "${lines[@]}"; do
         printf -v row '    %-28s %s' "$label" "${line#*: }"
         [[ $text == *$'\nfile: src/'* ]] || row+=' [definition]'
@@ -165,6 +179,7 @@ take_crate() {
     fi
 }
 
+! $refused || try_edits
 claims=$(stated_claims)
 for name in $claims; do is_claim[$name]=1; done
 crates=$(listed_crates)

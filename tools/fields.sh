@@ -20,6 +20,10 @@ for folder in crates/*/; do
         echo "fields: the source of crates/$crate names a field of a State" >&2
         faults=$((faults + 1))
     fi
+    if grep -n 'Stands::site' "$folder"src/*.rt; then
+        echo "fields: a proof of crates/$crate is to look into site" >&2
+        faults=$((faults + 1))
+    fi
     if [ -d "${folder}proofs" ] && grep -rnE '^ *unfolding ([^ ]+ )*site( |$)' "${folder}proofs"; then
         echo "fields: a proof of crates/$crate looks into site" >&2
         faults=$((faults + 1))

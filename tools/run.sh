@@ -3,40 +3,35 @@
 # 01. What else the checker prints goes into target/run.log, which is shown if something fails.
 set -euo pipefail
 cd "$(dirname "$0")/.."
-log=target/run.log
+log=$PWD/target/run.log printed=$PWD/target/run.out session=$PWD/tests/panelrights/session.in
 
-# From what `rt check` prints, as it comes: a line for each crate that it tries, and one for all that are unchanged.
+# From what `rt run` prints, as it comes: a line for each crate that it proves.
 shorten() {
-    local mark name word seconds rest tried=0 unchanged=0
-    while read -r mark name word seconds rest; do
-        case "$mark $word $seconds $rest" in
-        'rt: proved (unchanged '*)
-            unchanged=$((unchanged + 1))
-            continue
+    local line name='' proved=0 before=0
+    while IFS= read -r line; do
+        case $line in
+        'crate '*) name=${line#crate } name=${name%%:*} ;;
+        'logic=proved '*)
+            printf '  %-18s proved in %3d s\n' "$name" $((SECONDS - before))
+            before=$SECONDS proved=$((proved + 1))
             ;;
-        'rt: proved ('[0-9]*' s)') printf '  %-14s proved in %3d s\n' "$name" "${seconds#(}" ;;
-        'rt: NOT PROVED'*) printf '  %-14s NOT PROVED\n' "$name" ;;
-        *) continue ;;
+        'logic='*) printf '  %-18s NOT PROVED\n' "$name" ;;
         esac
-        tried=$((tried + 1))
     done
-    if [ "$unchanged" -gt 0 ] && [ "$tried" -eq 0 ]; then
-        echo "  nothing to prove: all $unchanged are unchanged since they were last proved"
-    elif [ "$unchanged" -gt 0 ]; then
-        echo "  unchanged since they were last proved: $unchanged"
-    fi
+    [ "$proved" -gt 0 ] || echo '  nothing to prove: all is unchanged since it was last proved'
 }
 
-mkdir -p target
-echo 'Proving the crates below PanelRights, about three minutes the first time:'
-rt check panelrights 2>&1 | tee "$log" | shorten || {
+mkdir -p target/bin
+echo 'Proving the crates below PanelRights:'
+(cd crates/panelrights && rt run <"$session" 2>&1 >"$printed") | tee "$log" | shorten || {
     status=$?
     cat "$log" >&2
     echo "run: it failed; what rt printed stands above, and in $log" >&2
     exit "$status"
 }
+cp crates/panelrights/out/panelrights target/bin
 echo
 echo 'PanelRights, on the session of document 01 (tests/panelrights/session.in):'
-target/bin/panelrights <tests/panelrights/session.in
+cat "$printed"
 echo
 echo 'On a file of your own: target/bin/panelrights <FILE'

@@ -3,48 +3,44 @@
 // is too long (9 bytes). Each buffer is full of '#' before.
 ghost use Rattle.std.specs.Prelude.{◌≤◌};
 
-use libc::{STDIN_FILENO, STDOUT_FILENO};
+use std::io;
 
-fn print(text: &[u8]) {
-    io::write_all(STDOUT_FILENO, text);
+fn print(rt: &impl Print, text: &[u8]) -> io::Result<()> {
+    rt.write_all(text)
 }
 
 // The transcript in a buffer of this length.
-fn show(input: &[u8], size: usize)
+fn show(rt: &impl Print, input: &[u8], size: usize) -> io::Result<()>
     requires { size ≤ 80 }
 {
     let mut longest = [b'#'; 80];
     let buffer = &mut longest[0..size];
     let written = transcript::write(input, buffer);
-    print(b"a buffer of ");
-    io::print_decimal(STDOUT_FILENO, size as u64);
-    print(b": refusal ");
-    io::print_decimal(STDOUT_FILENO, written.refusal as u64);
-    print(b", length ");
-    io::print_decimal(STDOUT_FILENO, written.length as u64);
-    print(b"\n");
-    print(buffer);
-    print(b"\n");
+    let refusal = written.refusal;
+    let length = written.length;
+    println!(rt; "a buffer of {size}: refusal {refusal}, length {length}")?;
+    print(rt, buffer)?;
+    print(rt, b"\n")
 }
 
-fn session(input: &[u8]) {
-    show(input, 0);
-    show(input, 1);
-    show(input, 72);
-    show(input, 73);
-    show(input, 76);
+fn session(rt: &impl Print, input: &[u8]) -> io::Result<()> {
+    show(rt, input, 0)?;
+    show(rt, input, 1)?;
+    show(rt, input, 72)?;
+    show(rt, input, 73)?;
+    show(rt, input, 76)
 }
 
-fn too_long(input: &[u8]) {
-    show(input, 8);
-    show(input, 9);
-    show(input, 12);
+fn too_long(rt: &impl Print, input: &[u8]) -> io::Result<()> {
+    show(rt, input, 8)?;
+    show(rt, input, 9)?;
+    show(rt, input, 12)
 }
 
 // Both, each into its buffers.
-pub fn run() {
+pub fn run(rt: &(impl Print + Input)) -> io::Result<()> {
     let mut input = [0u8; 4096];
-    let count = io::read_full(STDIN_FILENO, &mut input);
-    session(&input[0..count]);
-    too_long(&[0u8; 65537]);
+    let count = input_reader::read_full(&mut rt.reader(), &mut input)?;
+    session(rt, &input[0..count])?;
+    too_long(rt, &[0u8; 65537])
 }

@@ -1,7 +1,7 @@
 // Asks the label finder for labels of a small file, and prints the part of the file that each gets.
 ghost use Rattle.std.specs.Prelude.{◌≤◌};
 
-use libc::STDOUT_FILENO;
+use std::io;
 
 // The founding state, and a label for area 0.
 const FILE: [u8; 62] = [
@@ -18,29 +18,33 @@ const FILE: [u8; 62] = [
     0, 0, 0, 0,
 ];
 
-fn print(text: &[u8]) {
-    io::write_all(STDOUT_FILENO, text);
+fn print(rt: &impl Print, text: &[u8]) -> io::Result<()> {
+    rt.write_all(text)
 }
 
 // How many bytes the label of the area has in the file, which ends after `size` bytes, and the bytes.
-fn tell(name: &[u8], size: usize, area: u32)
+fn tell(rt: &impl Print, name: &[u8], size: usize, area: u32) -> io::Result<()>
     requires { size ≤ 62 }
 {
     let file = FILE;
     let text = label_finder::label(&file[0..size], area);
-    print(name);
-    print(b": ");
-    io::print_decimal(STDOUT_FILENO, text.len() as u64);
-    print(b" <");
-    print(text);
-    print(b">\n");
+    let length = text.len();
+    print(rt, name)?;
+    print!(rt; ": {length} <")?;
+    print(rt, text)?;
+    print(rt, b">\n")
 }
 
 // All of them.
-pub fn run() {
-    tell(b"the label of area 0", 62, 0);
-    tell(b"of area 1, which has none", 62, 1);
-    tell(b"of area 255", 62, 255);
-    tell(b"of area 256", 62, 256);
-    tell(b"of area 0, in the same file without its last byte", 61, 0);
+pub fn run(rt: &impl Print) -> io::Result<()> {
+    tell(rt, b"the label of area 0", 62, 0)?;
+    tell(rt, b"of area 1, which has none", 62, 1)?;
+    tell(rt, b"of area 255", 62, 255)?;
+    tell(rt, b"of area 256", 62, 256)?;
+    tell(
+        rt,
+        b"of area 0, in the same file without its last byte",
+        61,
+        0,
+    )
 }

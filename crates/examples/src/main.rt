@@ -7,8 +7,8 @@ mod buffers;
 mod labels;
 
 use access::Answer;
-use libc::STDOUT_FILENO;
 use state::State;
+use std::io;
 
 // A command is a number: its kind in the millions, x in the thousands, and y.
 const FOUNDING: u32 = 0; // case x begins in the founding state
@@ -132,55 +132,55 @@ const CASES: [u32; 91] = [
     ASK + 5_255,
 ];
 
-fn print(text: &[u8]) {
-    io::write_all(STDOUT_FILENO, text);
+fn print(rt: &impl Print, text: &[u8]) -> io::Result<()> {
+    rt.write_all(text)
 }
 
-fn print_number(n: u8) {
-    io::print_decimal(STDOUT_FILENO, n as u64);
+fn print_number(rt: &impl Print, n: u8) -> io::Result<()> {
+    print!(rt; "{n}")
 }
 
-fn early_title(number: u8) {
+fn early_title(rt: &impl Print, number: u8) -> io::Result<()> {
     match number {
-        1 => print(b"line 6 of the session\n"),
-        2 => print(b"line 8 of the session\n"),
-        3 => print(b"a cycle that vouches for itself\n"),
-        4 => print(b"the cycle tied to the defining area\n"),
-        _ => print(b"export does not go inward, import does\n"),
+        1 => print(rt, b"line 6 of the session\n"),
+        2 => print(rt, b"line 8 of the session\n"),
+        3 => print(rt, b"a cycle that vouches for itself\n"),
+        4 => print(rt, b"the cycle tied to the defining area\n"),
+        _ => print(rt, b"export does not go inward, import does\n"),
     }
 }
 
-fn late_title(number: u8) {
+fn late_title(rt: &impl Print, number: u8) -> io::Result<()> {
     match number {
-        6 => print(b"import does not go outward, export does\n"),
-        7 => print(b"a chain through all areas, both ways\n"),
-        8 => print(b"the chain cut, and ways of 9 steps and of 8\n"),
-        9 => print(b"an area in itself\n"),
-        _ => print(b"numbers past the limits\n"),
+        6 => print(rt, b"import does not go outward, export does\n"),
+        7 => print(rt, b"a chain through all areas, both ways\n"),
+        8 => print(rt, b"the chain cut, and ways of 9 steps and of 8\n"),
+        9 => print(rt, b"an area in itself\n"),
+        _ => print(rt, b"numbers past the limits\n"),
     }
 }
 
 // The heading of case 1 to 10.
-fn title(number: u8) {
+fn title(rt: &impl Print, number: u8) -> io::Result<()> {
     if number <= 5 {
-        early_title(number);
+        early_title(rt, number)
     } else {
-        late_title(number);
+        late_title(rt, number)
     }
 }
 
-fn print_answer(answer: Answer) {
+fn print_answer(rt: &impl Print, answer: Answer) -> io::Result<()> {
     match answer {
         Answer::Steps(n) => {
-            print(b": steps ");
-            print_number(n);
-            print(b"\n");
+            print(rt, b": steps ")?;
+            print_number(rt, n)?;
+            print(rt, b"\n")
         }
-        Answer::NoAccess => print(b": no access\n"),
+        Answer::NoAccess => print(rt, b": no access\n"),
     }
 }
 
-fn ask(s: State, area: u8, object: u8) {
+fn ask(rt: &impl Print, s: State, area: u8, object: u8) -> io::Result<()> {
     let answer = search::steps(
         &s.definitions,
         &s.structure,
@@ -189,11 +189,11 @@ fn ask(s: State, area: u8, object: u8) {
         area,
         object,
     );
-    print(b"  area ");
-    print_number(area);
-    print(b", object ");
-    print_number(object);
-    print_answer(answer);
+    print(rt, b"  area ")?;
+    print_number(rt, area)?;
+    print(rt, b", object ")?;
+    print_number(rt, object)?;
+    print_answer(rt, answer)
 }
 
 // Area a lies in area a + 1, for each of them, and each exports object 9 and imports object 10.
@@ -221,38 +221,40 @@ fn changed(s: State, kind: u32, x: u8, y: u8) -> State {
 }
 
 // The state after one command, whatever it is.
-fn after(s: State, command: u32) -> State {
+fn after(rt: &impl Print, s: State, command: u32) -> io::Result<State> {
     let x = (command / 1000 % 1000 % 256) as u8;
     let y = (command % 1000 % 256) as u8;
     let kind = command / 1_000_000 * 1_000_000;
     match kind {
         FOUNDING => {
-            title(x);
-            State::founding()
+            title(rt, x)?;
+            Ok(State::founding())
         }
         CHAIN => {
-            title(x);
-            chain()
+            title(rt, x)?;
+            Ok(chain())
         }
         ASK => {
-            ask(s, x, y);
-            s
+            ask(rt, s, x, y)?;
+            Ok(s)
         }
-        _ => changed(s, kind, x, y),
+        _ => Ok(changed(s, kind, x, y)),
     }
 }
 
-fn run_cases() {
+fn run_cases(rt: &impl Print) -> io::Result<()> {
     let cases = CASES;
     let mut s = State::founding();
     for i in 0..91usize {
-        let next = after(s, cases[i]);
+        let next = after(rt, s, cases[i])?;
         s = next;
     }
+    Ok(())
 }
 
-fn main() {
-    run_cases();
-    buffers::run();
-    labels::run();
+// A read or a write that fails is the error of the program.
+fn main(rt: HostRuntime) -> io::Result<()> {
+    run_cases(&rt)?;
+    buffers::run(&rt)?;
+    labels::run(&rt)
 }
