@@ -1,6 +1,6 @@
 -- Rows of bits, and the cells that they stand for: a truth value for each place of each row, row by row. The cell of
 -- place j of row i is cell i * 32 + j (Claims, CellAt).
-use Rattle.std.specs.Prelude.{ℕ, zero, suc, ◌/◌, ◌^◌, ◌<◌, Bool, List, ◌∷◌, ◌++◌, get_or}
+use Rattle.std.specs.Prelude.{ℕ, zero, suc, ◌/◌, ◌^◌, ◌<◌, Bool, List, [], ◌∷◌, ◌++◌, get_or}
 use Rattle.bits.specs.Bits.{bit, places}
 
 abbrev pub Rows : Type 0

@@ -1,6 +1,6 @@
 -- Chains of areas (document 02, point 5): "write the chain of areas from the definer: a shortest one, and among those
 -- the one with the lowest numbers compared from the front".
-use Rattle.std.specs.Prelude.{ℕ, ◌≤◌, ◌<◌, ◌≡◌, Bool, List, ◌∷◌, T, length}
+use Rattle.std.specs.Prelude.{ℕ, ◌≤◌, ◌<◌, ◌≡◌, Bool, List, [], ◌∷◌, T, length}
 use Rattle.state.specs.Site.{area, limit}
 use Rattle.access.specs.Lending.{Lending, step}
 

@@ -1,6 +1,6 @@
 -- What is claimed of chains of areas, in the words of document 02, point 5. Each claim is a type, which
 -- proofs/Laws.antt inhabits under the claim's name.
-use Rattle.std.specs.Prelude.{ℕ, suc, ◌≤◌, ◌≡◌, ◌↔◌, false, List, T, length}
+use Rattle.std.specs.Prelude.{ℕ, suc, ◌≤◌, ◌≡◌, ◌↔◌, false, List, [], T, length}
 use Rattle.access.specs.Lending.{Lending}
 use Rattle.access.specs.Chain.{ObjectChain}
 use Rattle.access.specs.Answer.{answer, access}

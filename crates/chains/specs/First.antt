@@ -1,6 +1,6 @@
 -- The first chain of an object to an area, as a definition that can be computed. That it is the first, and that no
 -- other is, is claimed in Claims.antt.
-use Rattle.std.specs.Prelude.{ℕ, zero, suc, Bool, ◌&&◌, List, ◌∷◌, eqb}
+use Rattle.std.specs.Prelude.{ℕ, zero, suc, Bool, ◌&&◌, List, [], ◌∷◌, eqb}
 use Rattle.state.specs.Below.{some_below, first_below}
 use Rattle.state.specs.Site.{area, limit}
 use Rattle.access.specs.Lending.{Lending, step}

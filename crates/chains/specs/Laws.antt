@@ -1,5 +1,5 @@
 -- What the layers above use. Each law is a type, which proofs/Laws.antt inhabits under the law's name.
-use Rattle.std.specs.Prelude.{ℕ, ◌≤◌, ◌<◌, ◌≡◌, Bool, true, false}
+use Rattle.std.specs.Prelude.{ℕ, ◌≤◌, ◌<◌, ◌≡◌, Bool, true, false, []}
 use Rattle.state.specs.Site.{area, limit}
 use Rattle.access.specs.Lending.{Lending, step}
 use Rattle.access.specs.Answer.{longest}

@@ -3,7 +3,7 @@
 -- the start, if none of the owners it has there activates an instruction of the list, then after the list it has
 -- exactly the owners, objects, imports and exports it had, and each object it imports or exports can still be traced to
 -- it.
-use Rattle.std.specs.Prelude.{ℕ, ◌≡◌, List, ◌∷◌, T}
+use Rattle.std.specs.Prelude.{ℕ, ◌≡◌, List, [], ◌∷◌, T}
 use Rattle.state.specs.Site.{area, listed, owns, defines, imports, exports}
 use Rattle.state.specs.Site.{Site}
 use Rattle.access.specs.Lending.{lending}

@@ -1,6 +1,6 @@
 -- The examples of refusals 1 to 11 and the session's end (document 01), as one table with a single claim. Each example
 -- starts in F, the founding state.
-use Rattle.std.specs.Prelude.{ℕ, ◌≡◌, List, ◌∷◌, map}
+use Rattle.std.specs.Prelude.{ℕ, ◌≡◌, List, [], ◌∷◌, map}
 use Rattle.state.specs.Site.{founding, counts}
 use Rattle.state.specs.Site.{Site}
 use Rattle.instructions.specs.Instructions.{Bytes, four_bytes}

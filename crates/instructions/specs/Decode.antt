@@ -1,6 +1,6 @@
 -- The decoder (document 01, 'The twelve instructions' and refusals 1 and 2): which instruction four bytes fit, if any.
 -- No list is looked at.
-use Rattle.std.specs.Prelude.{ℕ, Bool, true, false, ◌&&◌, cond, List, ◌∷◌, eqb, ltb}
+use Rattle.std.specs.Prelude.{ℕ, Bool, true, false, ◌&&◌, cond, List, [], ◌∷◌, eqb, ltb}
 use Rattle.state.specs.Checks.{Check, ◌when◌}
 use Rattle.state.specs.Site.{user, area, object, limit}
 use Rattle.instructions.specs.Instructions.{Bytes, rule, Picked, unknown, instruction, instruction_of}

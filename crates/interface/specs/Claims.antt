@@ -1,6 +1,6 @@
 -- What is claimed of the C interface. Each claim is a type, which proofs/Laws.antt inhabits under the claim's name. The
 -- words in quotation marks are those of include/panelrights.h.
-use Rattle.std.specs.Prelude.{ℕ, ◌+◌, ◌/◌, ◌%◌, ◌≤◌, ◌<◌, ◌≡◌, ◌↔◌, Bool, false, ◌&&◌, ◌||◌, not, List, ◌∷◌, ◌++◌, map, T, eqb, ltb, length, take, drop}
+use Rattle.std.specs.Prelude.{ℕ, ◌+◌, ◌/◌, ◌%◌, ◌≤◌, ◌<◌, ◌≡◌, ◌↔◌, Bool, false, ◌&&◌, ◌||◌, not, List, [], ◌∷◌, ◌++◌, map, T, eqb, ltb, length, take, drop}
 use Rattle.state.specs.Checks.{among}
 use Rattle.state.specs.Site.{Site, Shaped, founding}
 use Rattle.access.specs.Answer.{longest}

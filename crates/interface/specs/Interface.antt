@@ -17,7 +17,7 @@
 --     lowest                         panelrights_lowest_mark (marks, Marks)
 --     run_buffer                      one call of panelrights_step after the other
 --     commands_buffer                 one call of panelrights_step or panelrights_recipe after the other
-use Rattle.std.specs.Prelude.{ℕ, ◌+◌, ◌*◌, cond, List, ◌∷◌, eqb}
+use Rattle.std.specs.Prelude.{ℕ, ◌+◌, ◌*◌, cond, List, [], ◌∷◌, eqb}
 use Rattle.state.specs.Site.{Site, founding}
 use Rattle.access.specs.Answer.{answer_number}
 use Rattle.records.specs.Record.{bytes_of, is_record, state_of, is_sized, stored}

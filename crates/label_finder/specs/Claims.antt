@@ -1,5 +1,5 @@
 -- What is claimed of the label finder. Each claim is a type, which proofs/Laws.antt inhabits under the claim's name.
-use Rattle.std.specs.Prelude.{ℕ, ◌+◌, ◌*◌, ◌≤◌, ◌<◌, ◌≡◌, List, length, take, drop}
+use Rattle.std.specs.Prelude.{ℕ, ◌+◌, ◌*◌, ◌≤◌, ◌<◌, ◌≡◌, List, [], length, take, drop}
 use Rattle.label_tables.specs.Labels.{label_count, label_area, label_length, entry_text, label_of}
 use Rattle.site_format.specs.Format.{labels, offset_in, part}
 use Rattle.site_file.specs.Reading.{file_refusal}

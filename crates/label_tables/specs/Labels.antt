@@ -5,7 +5,7 @@
 --     label_index                             which entry is that of an area
 --     entry_text, label_of                     the text of an entry, and of an area's label
 --     LawfulBlock                            a table that has no partial entry, and passes 26 and 27
-use Rattle.std.specs.Prelude.{ℕ, ◌+◌, ◌-◌, ◌*◌, ◌/◌, ◌≡◌, Bool, ◌&&◌, cond, List, T, eqb, ltb, leb, length, get_or, take, drop}
+use Rattle.std.specs.Prelude.{ℕ, ◌+◌, ◌-◌, ◌*◌, ◌/◌, ◌≡◌, Bool, ◌&&◌, cond, List, [], T, eqb, ltb, leb, length, get_or, take, drop}
 use Rattle.state.specs.Below.{each_below, first_below}
 use Rattle.state.specs.Cells.{Members, member}
 use Rattle.state.specs.Site.{area, limit}

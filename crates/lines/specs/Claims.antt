@@ -1,5 +1,5 @@
 -- What is claimed of words and lines. Each claim is a type, which proofs/Laws.antt inhabits under the claim's name.
-use Rattle.std.specs.Prelude.{ℕ, ◌<◌, ◌≡◌, ◌↔◌, List, ◌∷◌, ◌++◌}
+use Rattle.std.specs.Prelude.{ℕ, ◌<◌, ◌≡◌, ◌↔◌, List, [], ◌∷◌, ◌++◌}
 use Rattle.output.specs.Decimal.{decimal}
 use Rattle.lines.specs.Words.{word_number}
 use Rattle.lines.specs.Lines.{line_number, line_of, lines_of, first_line_of}

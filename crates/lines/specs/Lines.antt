@@ -5,7 +5,7 @@
 --     lines_of     the lines of an input
 --     line_number  the paper's number for a line
 --     first_line_of the first line, and how many bytes it takes
-use Rattle.std.specs.Prelude.{ℕ, suc, Bool, ◌&&◌, cond, List, ◌∷◌, map, eqb, ltb, length, take}
+use Rattle.std.specs.Prelude.{ℕ, suc, Bool, ◌&&◌, cond, List, [], ◌∷◌, map, eqb, ltb, length, take}
 use Rattle.lines.specs.Words.{no_number, word_number}
 use Rattle.lines.specs.declared.Line.{Line}
 use Rattle.lines.specs.declared.Line.TheVariants.{Unreadable, Readable}

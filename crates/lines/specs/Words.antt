@@ -1,6 +1,6 @@
 -- The number that a word stands for (document 01, 'The program PanelRights'): "decimal numbers 0 to 255, without
 -- leading zeros". How a number is written is in crate `output` (Decimal).
-use Rattle.std.specs.Prelude.{ℕ, Bool, true, false, ◌&&◌, List, ◌∷◌, eqb}
+use Rattle.std.specs.Prelude.{ℕ, Bool, true, false, ◌&&◌, List, [], ◌∷◌, eqb}
 use Rattle.state.specs.Below.{first_below}
 use Rattle.output.specs.Decimal.{decimal}
 

@@ -1,5 +1,5 @@
 -- What the layers above use. Each law is a type, which proofs/Laws.antt inhabits under the law's name.
-use Rattle.std.specs.Prelude.{ℕ, ◌<◌, ◌≡◌, true, false, List, ◌∷◌}
+use Rattle.std.specs.Prelude.{ℕ, ◌<◌, ◌≡◌, true, false, List, [], ◌∷◌}
 use Rattle.state.specs.Site.{Site}
 use Rattle.state.specs.Checks.{first_met}
 use Rattle.access.specs.Lending.{lending}

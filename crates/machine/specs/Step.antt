@@ -1,5 +1,5 @@
 -- The step, the list of steps, and the access question.
-use Rattle.std.specs.Prelude.{ℕ, ◌≡◌, not, ◌&&◌, cond, List, ◌∷◌, eqb, ltb}
+use Rattle.std.specs.Prelude.{ℕ, ◌≡◌, not, ◌&&◌, cond, List, [], ◌∷◌, eqb, ltb}
 use Rattle.state.specs.Site.{Site, area, object, limit, listed, Verdict, verdict}
 use Rattle.access.specs.Lending.{lending}
 use Rattle.access.specs.Answer.{answer, unreached, answer_number}

@@ -1,6 +1,6 @@
 -- What is claimed of texts in a buffer, and of numbers. Each claim is a type, which proofs/Laws.antt inhabits under the
 -- claim's name.
-use Rattle.std.specs.Prelude.{ℕ, ◌+◌, ◌/◌, ◌%◌, ◌≤◌, ◌<◌, ◌≡◌, List, ◌∷◌, ◌++◌, length, take, drop}
+use Rattle.std.specs.Prelude.{ℕ, ◌+◌, ◌/◌, ◌%◌, ◌≤◌, ◌<◌, ◌≡◌, List, [], ◌∷◌, ◌++◌, length, take, drop}
 use Rattle.output.specs.Buffer.{laid, place_behind, written, written_of, buffer_of}
 use Rattle.output.specs.Decimal.{decimal}
 

@@ -1,5 +1,5 @@
 -- Decimal numbers as bytes (document 01, 'The program PanelRights'): "decimal numbers 0 to 255, without leading zeros".
-use Rattle.std.specs.Prelude.{ℕ, zero, suc, ◌+◌, ◌/◌, ◌%◌, cond, List, ◌∷◌, ◌++◌, ltb}
+use Rattle.std.specs.Prelude.{ℕ, zero, suc, ◌+◌, ◌/◌, ◌%◌, cond, List, [], ◌∷◌, ◌++◌, ltb}
 
 -- the byte of a digit 0 to 9
 abbrev pub digit : ℕ → ℕ

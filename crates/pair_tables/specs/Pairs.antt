@@ -6,7 +6,7 @@
 --     pairs_fit, pairs_ascend    what refusals 26 and 27 ask of the table
 --     with_pairs, has_pair       the relation that the table holds
 --     table_of                  the table of a relation
-use Rattle.std.specs.Prelude.{ℕ, zero, suc, ◌+◌, ◌-◌, ◌*◌, ◌/◌, ◌%◌, ◌≡◌, Bool, true, ◌&&◌, ◌||◌, cond, List, ◌∷◌, ◌++◌, eqb, ltb, length, get_or}
+use Rattle.std.specs.Prelude.{ℕ, zero, suc, ◌+◌, ◌-◌, ◌*◌, ◌/◌, ◌%◌, ◌≡◌, Bool, true, ◌&&◌, ◌||◌, cond, List, [], ◌∷◌, ◌++◌, eqb, ltb, length, get_or}
 use Rattle.state.specs.Below.{each_below, some_below}
 use Rattle.state.specs.Cells.{Pairs, width, put}
 use Rattle.state.specs.Site.{area, limit}

@@ -1,5 +1,5 @@
 -- Not needed to believe a claim. What this crate's own functions promise each other: the pairs of one row.
-use Rattle.std.specs.Prelude.{ℕ, zero, suc, cond, List, ◌∷◌, ◌++◌}
+use Rattle.std.specs.Prelude.{ℕ, zero, suc, cond, List, [], ◌∷◌, ◌++◌}
 use Rattle.bits.specs.Bits.{bit, places}
 
 -- the pairs (i, j) for the places j of the row that are below n

@@ -2,7 +2,7 @@
 -- where a state is asked to be shaped, every record of the code is. Each claim is a type, which proofs/Laws.antt
 -- inhabits under the claim's name. What is claimed of lists of instructions and recipes stands in Commands, and what a
 -- recipe is in Form.
-use Rattle.std.specs.Prelude.{ℕ, suc, ◌≤◌, ◌≡◌, ◌↔◌, false, List, ◌∷◌, ◌++◌, T, length}
+use Rattle.std.specs.Prelude.{ℕ, suc, ◌≤◌, ◌≡◌, ◌↔◌, false, List, [], ◌∷◌, ◌++◌, T, length}
 use Rattle.state.specs.Site.{Site, Shaped}
 use Rattle.state.specs.Checks.{numbers, among}
 use Rattle.soundness.specs.Tests.{is_sound}

@@ -1,7 +1,7 @@
 -- The lending guarantee over a list of single instructions and recipes, mixed in any way: "For the lending guarantee an
 -- accepted recipe counts as its instructions and a refused one as none." (document 02, point 1). A refused single
 -- instruction counts, as in document 01: "an instruction's activator is its second byte, in a refused one too".
-use Rattle.std.specs.Prelude.{ℕ, ◌≡◌, ◌↔◌, cond, List, ◌∷◌, ◌++◌, T, eqb}
+use Rattle.std.specs.Prelude.{ℕ, ◌≡◌, ◌↔◌, cond, List, [], ◌∷◌, ◌++◌, T, eqb}
 use Rattle.state.specs.Site.{Site, owns}
 use Rattle.soundness.specs.Sound.{Sound}
 use Rattle.instructions.specs.Instructions.{Bytes}

@@ -1,7 +1,7 @@
 -- What a recipe is, as one writes it down: a list of 1 to 16 instructions, in which a and b are fixed numbers or
 -- parameters (document 02, point 1, 'Site recipes'). The bytes that are not refused as 14 are the bytes of such lists,
 -- and no others; and they give the instructions that the list means.
-use Rattle.std.specs.Prelude.{ℕ, ◌≤◌, ◌≡◌, ◌↔◌, false, List, ◌∷◌, ◌++◌, map, length, get_or}
+use Rattle.std.specs.Prelude.{ℕ, ◌≤◌, ◌≡◌, ◌↔◌, false, List, [], ◌∷◌, ◌++◌, map, length, get_or}
 use Rattle.instructions.specs.Instructions.{Bytes, four_bytes}
 use Rattle.recipes.specs.Recipe.{recipe_instructions, misformed}
 use Rattle.recipes.specs.declared.Call.{Call}

@@ -1,5 +1,5 @@
 -- What the layers above use. Each law is a type, which proofs/Laws.antt inhabits under the law's name.
-use Rattle.std.specs.Prelude.{ℕ, suc, ◌≤◌, ◌≡◌, true, false, List, ◌∷◌, length}
+use Rattle.std.specs.Prelude.{ℕ, suc, ◌≤◌, ◌≡◌, true, false, List, [], ◌∷◌, length}
 use Rattle.state.specs.Site.{Site}
 use Rattle.soundness.specs.Tests.{is_sound}
 use Rattle.instructions.specs.Instructions.{Bytes}

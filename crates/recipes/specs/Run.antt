@@ -3,7 +3,7 @@
 --     recipe_refusals         12 and 14, in their order
 --     ran_from                the instructions in turn
 --     recipe_of               what a recipe gives with a record, both of any content
-use Rattle.std.specs.Prelude.{ℕ, suc, not, cond, List, ◌∷◌, eqb}
+use Rattle.std.specs.Prelude.{ℕ, suc, not, cond, List, [], ◌∷◌, eqb}
 use Rattle.state.specs.Site.{Site}
 use Rattle.state.specs.Checks.{Check, ◌when◌, first_met}
 use Rattle.soundness.specs.Tests.{is_sound}

@@ -3,7 +3,7 @@
 use Prim.Native.Nat.{ℕ}
 use mathlib.Core.Path.{◌≡◌, sym, ap, subst, ◌∙◌}
 use mathlib.Core.Bool.{Bool}
-use mathlib.Core.List.{List, ◌∷◌}
+use mathlib.Core.List.{List, [], ◌∷◌}
 use Rattle.bits.specs.Rows.{Rows, cells_of}
 use Rattle.state.specs.Site.{Site, user, area, object, owner, definition, structure, import, export, site_of, Verdict}
 use Rattle.state.specs.Stands.{site, Sized, Fits}

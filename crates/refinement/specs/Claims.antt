@@ -1,7 +1,7 @@
 -- "Show that old and new records stand for the same sound states one to one, and that every instruction and question
 -- gives the same answers on both." (document 02, point 11). Each claim is a type, which proofs/Laws.antt inhabits under
 -- the claim's name.
-use Rattle.std.specs.Prelude.{ℕ, ◌≡◌, ◌↔◌, List, ◌∷◌}
+use Rattle.std.specs.Prelude.{ℕ, ◌≡◌, ◌↔◌, List, [], ◌∷◌}
 use Rattle.state.specs.Site.{Site, Shaped, verdict}
 use Rattle.state.specs.Stands.{site, Fits}
 use Rattle.state.specs.declared.State.{State}

@@ -1,6 +1,6 @@
 -- Not needed to believe a claim. The checks as the functions of this crate make them: a table from its numbers and
 -- conditions; 8 to 11 of the state t that an instruction would give; and all of them.
-use Rattle.std.specs.Prelude.{ℕ, Bool, true, false, ◌&&◌, not, List, ◌∷◌, ◌++◌}
+use Rattle.std.specs.Prelude.{ℕ, Bool, true, false, ◌&&◌, not, List, [], ◌∷◌, ◌++◌}
 use Rattle.state.specs.Checks.{Check, ◌when◌}
 use Rattle.state.specs.Site.{Site, area, members, owner, cells}
 use Rattle.state.specs.Walk.{has_second}

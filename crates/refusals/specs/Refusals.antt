@@ -2,7 +2,7 @@
 -- condition with the papers' words, and the table in the papers' order. 1 and 2 are the decoder's (instructions,
 -- Decode). The early ones depend on the row of the instruction and on what is read of the state (readings, `seen_of`),
 -- the late ones on the state and what it would become.
-use Rattle.std.specs.Prelude.{ℕ, Bool, true, false, ◌&&◌, ◌||◌, not, List, ◌∷◌, ◌++◌, eqb}
+use Rattle.std.specs.Prelude.{ℕ, Bool, true, false, ◌&&◌, ◌||◌, not, List, [], ◌∷◌, ◌++◌, eqb}
 use Rattle.state.specs.Checks.{Check, ◌when◌}
 use Rattle.state.specs.Site.{Site, area, members, owner, definition, structure, import, export, cells}
 use Rattle.state.specs.Walk.{each_member, some_pair, each_pair, has_first, has_second}

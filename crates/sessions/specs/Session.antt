@@ -1,6 +1,6 @@
 -- What the lines of a session do (document 01, 'The program PanelRights'): "It begins in F. For each line it prints ..
 -- 0 or the refusal."
-use Rattle.std.specs.Prelude.{ℕ, List, ◌∷◌}
+use Rattle.std.specs.Prelude.{ℕ, List, [], ◌∷◌}
 use Rattle.state.specs.Site.{founding}
 use Rattle.state.specs.Site.{Site}
 use Rattle.instructions.specs.Instructions.{Bytes, four_bytes}

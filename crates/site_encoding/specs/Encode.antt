@@ -1,5 +1,5 @@
 -- The encoding of a state and its labels as the bytes of a file, and which labels are lawful.
-use Rattle.std.specs.Prelude.{ℕ, ◌+◌, ◌/◌, ◌%◌, List, ◌∷◌, ◌++◌, T, length}
+use Rattle.std.specs.Prelude.{ℕ, ◌+◌, ◌/◌, ◌%◌, List, [], ◌∷◌, ◌++◌, T, length}
 use Rattle.state.specs.Site.{limit, first_kind, related}
 use Rattle.state.specs.Site.{Site}
 use Rattle.pair_tables.specs.Pairs.{table_of}

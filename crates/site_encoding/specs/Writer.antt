@@ -4,7 +4,7 @@
 --     write_checks, write_refusal    the refusals, in the paper's order
 --     write_of                      what is answered
 --     buffer_after                  what the buffer holds afterwards
-use Rattle.std.specs.Prelude.{ℕ, ◌%◌, Bool, ◌||◌, not, cond, List, ◌∷◌, ◌++◌, eqb, length, drop}
+use Rattle.std.specs.Prelude.{ℕ, ◌%◌, Bool, ◌||◌, not, cond, List, [], ◌∷◌, ◌++◌, eqb, length, drop}
 use Rattle.state.specs.Checks.{Check, ◌when◌, first_met}
 use Rattle.state.specs.Site.{Site}
 use Rattle.soundness.specs.Tests.{is_sound}

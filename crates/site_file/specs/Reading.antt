@@ -1,6 +1,6 @@
 -- The refusals of a site file in the paper's order, and what an accepted file holds (document 01, 'The site file'; a
 -- part of 29 is of document 02, point 4).
-use Rattle.std.specs.Prelude.{ℕ, Bool, true, ◌&&◌, ◌||◌, not, cond, List, ◌∷◌, ◌++◌, eqb}
+use Rattle.std.specs.Prelude.{ℕ, Bool, true, ◌&&◌, ◌||◌, not, cond, List, [], ◌∷◌, ◌++◌, eqb}
 use Rattle.state.specs.Checks.{Check, ◌when◌, first_met}
 use Rattle.state.specs.Cells.{Pairs}
 use Rattle.state.specs.Site.{Relation, founding, Verdict, verdict}

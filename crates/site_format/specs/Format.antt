@@ -1,5 +1,5 @@
 -- The format of a site file as data (document 01, 'The site file'): the header's fields, and one row for each table.
-use Rattle.std.specs.Prelude.{ℕ, ◌+◌, ◌*◌, ◌<◌, Bool, true, ◌&&◌, List, ◌∷◌, get_or, take, drop}
+use Rattle.std.specs.Prelude.{ℕ, ◌+◌, ◌*◌, ◌<◌, Bool, true, ◌&&◌, List, [], ◌∷◌, get_or, take, drop}
 use Rattle.state.specs.Site.{Relation, owner, definition, structure, import, export, limit, first_kind}
 use Rattle.pair_tables.specs.Pairs.{pair_size, pairs_fit, pairs_ascend}
 use Rattle.label_tables.specs.Labels.{label_size, labels_fit, labels_ascend}

@@ -1,6 +1,6 @@
 -- What is claimed of a file that passes 25: "Tables follow in that order with no gap, the first at 28, and the file
 -- ends with the last." Each claim is a type, which proofs/Laws.antt inhabits under the claim's name.
-use Rattle.std.specs.Prelude.{ℕ, ◌≡◌, List, ◌∷◌, ◌++◌, T, length, drop}
+use Rattle.std.specs.Prelude.{ℕ, ◌≡◌, List, [], ◌∷◌, ◌++◌, T, length, drop}
 use Rattle.site_format.specs.Format.{header_size, Content, tables, size_in, part}
 use Rattle.site_header.specs.Header.{placed_from}
 

@@ -1,5 +1,5 @@
 -- The refusals of a site file's header, 21 to 25, in the paper's order (document 01, 'The site file').
-use Rattle.std.specs.Prelude.{ℕ, ◌+◌, Bool, ◌&&◌, not, List, ◌∷◌, eqb, ltb, length}
+use Rattle.std.specs.Prelude.{ℕ, ◌+◌, Bool, ◌&&◌, not, List, [], ◌∷◌, eqb, ltb, length}
 use Rattle.state.specs.Checks.{Check, ◌when◌}
 use Rattle.site_format.specs.Format.{header_size, field, version, version_at, length_at, Content, layout_of, tables}
 use Rattle.site_format.specs.Format.{each_table, count_in, offset_in, size_in}

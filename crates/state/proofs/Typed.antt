@@ -1,7 +1,7 @@
 -- A record that a function is handed by value has the rows that its type says, and so the shape of a state.
 -- Assumes nothing.
 use Prim.Native.Nat.{ℕ, zero, suc}
-use mathlib.Core.List.{List, ◌∷◌}
+use mathlib.Core.List.{List, [], ◌∷◌}
 use lib.Pow.{pow_pos}
 use mir.Syntax.{w32}
 use mir.Val.{Val}

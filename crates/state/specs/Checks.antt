@@ -1,6 +1,6 @@
 -- A table of refusals in the order of its checks, and the number that it gives: what is refused gets the first number
 -- whose condition is met (demand 2).
-use Rattle.std.specs.Prelude.{ℕ, ◌≡◌, Bool, true, false, ◌&&◌, ◌||◌, not, cond, List, ◌∷◌, map, T, eqb}
+use Rattle.std.specs.Prelude.{ℕ, ◌≡◌, Bool, true, false, ◌&&◌, ◌||◌, not, cond, List, [], ◌∷◌, map, T, eqb}
 
 -- one row: a number, and whether its condition is met
 pub record Check : Type 0 where

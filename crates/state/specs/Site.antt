@@ -9,7 +9,7 @@
 --     counts                                      how many users, areas, objects and pairs there are
 --     Shaped                                      every set and relation has its number of cells
 --     Verdict                                     a refusal's number and a state
-use Rattle.std.specs.Prelude.{ℕ, ◌*◌, ◌≡◌, Bool, true, false, cond, List, ◌∷◌, eqb, length, replicate}
+use Rattle.std.specs.Prelude.{ℕ, ◌*◌, ◌≡◌, Bool, true, false, cond, List, [], ◌∷◌, eqb, length, replicate}
 use Rattle.state.specs.Cells.{Members, Pairs, width, member, mark, pair, put}
 use Rattle.state.specs.Walk.{count}
 

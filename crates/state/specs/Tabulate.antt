@@ -1,5 +1,5 @@
 -- The list of a function's values.
-use Rattle.std.specs.Prelude.{ℕ, zero, suc, List, ◌∷◌}
+use Rattle.std.specs.Prelude.{ℕ, zero, suc, List, [], ◌∷◌}
 
 -- f i, f (i + 1), .., n values in all
 unfoldable pub tabulate_from : {A : Type 0} → (ℕ → A) → ℕ → ℕ → List A

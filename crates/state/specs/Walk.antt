@@ -4,7 +4,7 @@
 --     some_pair, each_pair         of the pairs of a relation
 --     has_first, has_second        a pair with this first number, with this area
 --     count                      how many
-use Rattle.std.specs.Prelude.{ℕ, suc, ◌/◌, ◌%◌, Bool, true, false, ◌||◌, not, List, ◌∷◌, eqb}
+use Rattle.std.specs.Prelude.{ℕ, suc, ◌/◌, ◌%◌, Bool, true, false, ◌||◌, not, List, [], ◌∷◌, eqb}
 use Rattle.state.specs.Cells.{Members, Pairs, width}
 
 -- some cell that is set meets the test; the first cell of the list is number i

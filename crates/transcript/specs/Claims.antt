@@ -1,5 +1,5 @@
 -- What is claimed of what is printed. Each claim is a type, which proofs/Laws.antt inhabits under the claim's name.
-use Rattle.std.specs.Prelude.{ℕ, ◌≤◌, ◌<◌, ◌≡◌, List, ◌∷◌, length}
+use Rattle.std.specs.Prelude.{ℕ, ◌≤◌, ◌<◌, ◌≡◌, List, [], ◌∷◌, length}
 use Rattle.state.specs.Site.{founding, counts}
 use Rattle.machine.specs.Step.{run}
 use Rattle.lines.specs.Lines.{lines_of}

@@ -1,5 +1,5 @@
 -- What PanelRights prints for an input (document 01, 'The program PanelRights').
-use Rattle.std.specs.Prelude.{ℕ, ◌+◌, Bool, cond, List, ◌∷◌, ◌++◌, ltb, length}
+use Rattle.std.specs.Prelude.{ℕ, ◌+◌, Bool, cond, List, [], ◌∷◌, ◌++◌, ltb, length}
 use Rattle.state.specs.Site.{counts}
 use Rattle.output.specs.Decimal.{decimal}
 use Rattle.lines.specs.Lines.{newline, space}

@@ -1,5 +1,5 @@
 -- Validity object by object, of relations that are handed over as rows.
-use Rattle.std.specs.Prelude.{ℕ, Bool, ◌&&◌, ◌||◌, not}
+use Rattle.std.specs.Prelude.{ℕ, Bool, ◌&&◌, ◌||◌, not, []}
 use Rattle.bits.specs.Rows.{Rows, cells_of}
 use Rattle.state.specs.Below.{each_below, some_below}
 use Rattle.state.specs.Cells.{Pairs, pair}

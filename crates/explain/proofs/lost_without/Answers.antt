@@ -1,5 +1,6 @@
 -- `explain::lost_without` meets its contract: in each arm the relation that is changed is that of the state which the removal would give.
 -- Assumes nothing.
+use mathlib.Core.List.{[]}
 use Prim.Native.Nat.{ℕ, ◌<◌}
 use mathlib.Core.Path.{◌≡◌, sym, ap, subst, ◌∙◌}
 use mathlib.Core.Bool.{false}

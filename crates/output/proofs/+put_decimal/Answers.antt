@@ -1,7 +1,7 @@
 -- `output::put_decimal` meets its contract: the two rules of decimal numbers.
 -- Assumes nothing.
 use Prim.Native.Nat.{ℕ, ◌/◌, ◌%◌, ◌^◌, ◌≤◌, ◌<◌}
-use mathlib.Core.List.{List, ◌∷◌}
+use mathlib.Core.List.{List, [], ◌∷◌}
 use lib.ListN.{length}
 use Rattle.output.specs.Decimal.{digit, decimal}
 use Rattle.output.proofs.Decimal.{decimal_one, decimal_more}

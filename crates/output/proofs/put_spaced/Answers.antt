@@ -1,6 +1,6 @@
 -- `output::put_spaced` meets its contract: the space, and the number behind it.
 -- Assumes nothing.
-use mathlib.Core.List.{◌∷◌}
+use mathlib.Core.List.{[], ◌∷◌}
 use Rattle.output.proofs.Placing.{placed_then}
 use Rattle.output.proofs.put_spaced.Goals as goal
 

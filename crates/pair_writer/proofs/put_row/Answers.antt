@@ -3,7 +3,7 @@
 -- Assumes nothing.
 use Prim.Native.Nat.{ℕ, ◌<◌}
 use mathlib.Core.Path.{◌≡◌, sym, subst}
-use mathlib.Core.List.{List, ◌∷◌}
+use mathlib.Core.List.{List, [], ◌∷◌}
 use Rattle.bits.specs.Bits.{lowest, without_lowest}
 use Rattle.bits.proofs.Laws.{without_lowest_less}
 use Rattle.output.proofs.Placing.{Placed}

@@ -2,7 +2,7 @@
 -- Assumes nothing.
 use mathlib.Core.Path.{sym, ap, ◌∙◌}
 use mathlib.Core.Bool.{Bool, false, not, cond}
-use mathlib.Core.List.{◌∷◌}
+use mathlib.Core.List.{[], ◌∷◌}
 use Rattle.state.specs.Checks.{◌when◌}
 use Rattle.refusals.proofs.Alone.{alone}
 use Rattle.refusals.proofs.disown_refusal.Goals as goal

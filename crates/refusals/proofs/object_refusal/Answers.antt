@@ -1,5 +1,6 @@
 -- `refusals::object_refusal` meets its contract: in each arm the relation that is changed is that of the state which the instruction would give.
 -- Assumes nothing.
+use mathlib.Core.List.{[]}
 use Prim.Native.Nat.{ℕ}
 use mathlib.Core.Path.{◌≡◌, sym, ◌∙◌}
 use mathlib.Core.Bool.{Bool, true, false}

@@ -1,6 +1,6 @@
 -- `site_writer::put_field` meets its contract: the low byte, and the high one behind it.
 -- Assumes nothing.
-use mathlib.Core.List.{◌∷◌}
+use mathlib.Core.List.{[], ◌∷◌}
 use Rattle.output.proofs.Placing.{placed_then}
 use Rattle.site_writer.proofs.put_field.Goals as goal
 

@@ -1,7 +1,7 @@
 -- `site_writer::put_fields` meets its contract. Turn k of the loop lays the bytes of field k.
 -- Assumes nothing.
 use Prim.Native.Nat.{ℕ}
-use mathlib.Core.List.{List, ◌∷◌}
+use mathlib.Core.List.{List, [], ◌∷◌}
 use mathlib.Core.Path.{ap}
 use native.Mathlib.Numerals.{add-one}
 use lib.ListN.{length, get_or}

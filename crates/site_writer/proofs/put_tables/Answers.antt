@@ -3,7 +3,7 @@
 -- Assumes nothing.
 use Prim.Native.Nat.{ℕ}
 use mathlib.Core.Path.{sym, subst}
-use mathlib.Core.List.{List, ◌++◌, append-nil}
+use mathlib.Core.List.{List, [], ◌++◌, append-nil}
 use Rattle.output.proofs.Placing.{Placed, placed_then, placed_known}
 use Rattle.state.specs.Stands.{site}
 use Rattle.site_writer.proofs.put_tables.Goals as goal
