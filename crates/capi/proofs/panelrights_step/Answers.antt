@@ -3,7 +3,6 @@
 use Prim.Native.Nat.{ℕ}
 use mathlib.Core.Path.{◌≡◌, ap, sym, ◌∙◌}
 use mathlib.Core.List.{List}
-use borrow.Author.Rules.{rules}
 use Rattle.state.specs.Site.{Site}
 use Rattle.records.specs.Record.{state_of}
 use Rattle.instructions.specs.Instructions.{Bytes}
@@ -15,8 +14,7 @@ use Rattle.record_changes.specs.Change.{changed_record}
 use Rattle.interface.specs.Interface.{step_number, step_buffer}
 use Rattle.interface.proofs.Steps.{steps}
 use Rattle.capi.proofs.Changing.{unchanged, made}
-use Rattle.capi.proofs.panelrights_step.Statement.{statement}
-use Rattle.capi.proofs.panelrights_step.Tie as tie
+use Rattle.capi.proofs.panelrights_step.Goals as goal
 
 module _ (state : List ℕ) (x : Bytes) {s : Site} {n : ℕ} (told : s ≡ state_of state) (given : n ≡ step_refusal s x) where
   number : n ≡ (step_of s x).refusal
@@ -32,22 +30,12 @@ module _ (state : List ℕ) (x : Bytes) {s : Site} {n : ℕ} (told : s ≡ state
       let there = made (steps x) state told next (sym number ∙ z) given_next w in
       (sym there.0, there.1)
 
-same_length : tie.Need-same-length
-same_length c = search rules
+pub returns-then-refusal-ne0 : goal.returns-then-refusal-ne0
+returns-then-refusal-ne0 c =
+    let p = left_alone _ _ c.state_of.ensures c.refusal-refusal.ensures c.if-refusal-ne0.true in
+    record { number = p.0; buffer = p.1 }
 
-returns : tie.Need-returns
-returns c = left_alone _ _ c.before.before.state_of.ensures c.before.refusal.ensures c.if1.true
-
-same-length-2 : tie.Need-same-length-2
-same-length-2 c = search rules
-
-returns-2 : tie.Need-returns-2
-returns-2 c =
-    let changing = c.before.before in
-    let told = changing.before.before in
-    changed _ _ told.before.before.state_of.ensures told.before.refusal.ensures told.if1.false changing.change.ensures
-
-pub panelrights_step_spec : {M : Type 1} → statement M
-panelrights_step_spec =
-    tie.close
-    (tie.spec (λ c κs. tt) (λ c κs. tt) same_length returns (λ c κs. tt) same-length-2 returns-2)
+pub returns : goal.returns
+returns c =
+    let p = changed _ _ c.state_of.ensures c.refusal-refusal.ensures c.if-refusal-ne0.false c.change.ensures in
+    record { number = p.0; buffer = p.1 }

@@ -6,15 +6,13 @@ use mathlib.Core.Logic.{◌⊎◌, inl, inr}
 use mathlib.Core.Bool.{Bool, false, cond}
 use mathlib.Core.List.{List}
 use native.Mathlib.Omega.{arith}
-use borrow.Author.Rules.{rules}
 use lib.Dec.{T}
 use Rattle.state.specs.Site.{Site, Verdict}
 use Rattle.state.proofs.Bools.{is_true, test}
 use Rattle.records.specs.Record.{is_sized, number_for, stored}
 use Rattle.site_file.specs.Reading.{read_of}
 use Rattle.interface.specs.Interface.{file_number, file_buffer}
-use Rattle.capi.proofs.panelrights_read_file.Statement.{statement}
-use Rattle.capi.proofs.panelrights_read_file.Tie as tie
+use Rattle.capi.proofs.panelrights_read_file.Goals as goal
 
 abbrev number : Verdict → ℕ
 number r = r.refusal
@@ -50,23 +48,17 @@ module _ (file state : List ℕ) {n : ℕ} (e : n ≡ number_for state) where
 kept : (file state : List ℕ) {after : List ℕ} {r : Verdict} → after ≡ stored state r.state → r ≡ read_of file → after ≡ file_buffer file state
 kept file state w e = w ∙ ap (λ (q : Verdict). stored state (found q)) e
 
-same_length : tie.Need-same-length
-same_length c = search rules
+pub returns-then-missized-ne0 : goal.returns-then-missized-ne0
+returns-then-missized-ne0 c =
+    record {
+      number = other _ _ c.write-missized.ensures.number c.if-missized-ne0.true;
+      buffer = kept _ _ c.write-missized.ensures.bytes c.read-reading.ensures.equation;
+    }
 
-returns : tie.Need-returns
+pub returns : goal.returns
 returns c =
-    let written = c.before.before.before in
-    (other _ _ written.write.ensures.0 c.if1.true, kept _ _ written.write.ensures.1 written.before.before.before.read.ensures.0)
-
-same-length-2 : tie.Need-same-length-2
-same-length-2 c = search rules
-
-returns-2 : tie.Need-returns-2
-returns-2 c =
-    let written = c.before.before.before in
-    let read = written.before.before.before.read.ensures.0 in
-    (ap number read ∙ sized _ _ written.write.ensures.0 c.if1.false, kept _ _ written.write.ensures.1 read)
-
-pub panelrights_read_file_spec : {M : Type 1} → statement M
-panelrights_read_file_spec =
-    tie.close (tie.spec (λ c κs. tt) (λ c κs. tt) same_length returns same-length-2 returns-2)
+    let read = c.read-reading.ensures.equation in
+    record {
+      number = ap number read ∙ sized _ _ c.write-missized.ensures.number c.if-missized-ne0.false;
+      buffer = kept _ _ c.write-missized.ensures.bytes read;
+    }

@@ -9,15 +9,10 @@ use Rattle.machine.specs.Step.{reply_of}
 use Rattle.machine.specs.declared.Reply.{Reply}
 use Rattle.interface.specs.Interface.{answer_of, access_number}
 use Rattle.interface.proofs.Steps.{reply_is}
-use Rattle.capi.proofs.panelrights_access.Statement.{statement}
-use Rattle.capi.proofs.panelrights_access.Tie as tie
+use Rattle.capi.proofs.panelrights_access.Goals as goal
 
 answered : (state : List ℕ) (a b : ℕ) {s : Site} {r : Reply} {n : ℕ} → n ≡ answer_of r → r ≡ reply_of s a b → s ≡ state_of state → n ≡ access_number state a b
 answered state a b n r s = n ∙ ap answer_of (r ∙ ap (λ (t : Site). reply_of t a b) s) ∙ sym (reply_is state a b)
 
-returns : tie.Need-returns
-returns c = answered _ _ _ c.answer-of.ensures c.before.ask.ensures.0 c.before.before.state_of.ensures
-
-pub panelrights_access_spec : {M : Type 1} → statement M
-panelrights_access_spec =
-    tie.close (tie.spec (λ c κs. tt) (λ c κs. tt) (λ c κs. tt) returns)
+pub returns : goal.returns
+returns c = answered _ _ _ c.answer_of.ensures c.ask.ensures.equation c.state_of.ensures

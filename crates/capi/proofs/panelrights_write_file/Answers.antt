@@ -4,15 +4,13 @@ use Prim.Native.Nat.{ℕ, ◌+◌, ◌≤◌}
 use mathlib.Core.Path.{◌≡◌, sym, ap, subst, ◌∙◌}
 use mathlib.Core.List.{List}
 use native.Mathlib.Omega.{arith}
-use borrow.Author.Rules.{rules}
 use Rattle.state.specs.Site.{Site}
 use Rattle.records.specs.Record.{state_of}
 use Rattle.output.specs.declared.Written.{Written}
 use Rattle.site_encoding.specs.Writer.{write_of, buffer_after}
 use Rattle.interface.specs.Interface.{write_answer, write_buffer}
 use Rattle.interface.proofs.Writes.{buffer_is, refused_answer, written_answer, written_small}
-use Rattle.capi.proofs.panelrights_write_file.Statement.{statement}
-use Rattle.capi.proofs.panelrights_write_file.Tie as tie
+use Rattle.capi.proofs.panelrights_write_file.Goals as goal
 
 -- what the writer answered is what it answers for the state of the bytes
 module _ (state block file : List ℕ) (s : Site) (made : s ≡ state_of state) (w : Written) (e : w ≡ write_of s block file) where
@@ -31,33 +29,19 @@ module _ (state block file : List ℕ) (s : Site) (made : s ≡ state_of state) 
   kept : (after : List ℕ) → after ≡ buffer_after s block file → after ≡ write_buffer state block file
   kept after h = h ∙ ap (λ (t : Site). buffer_after t block file) made ∙ sym (buffer_is state block file)
 
-same_length : tie.Need-same-length
-same_length c = search rules
+pub returns-then-refusal-ne0 : goal.returns-then-refusal-ne0
+returns-then-refusal-ne0 c =
+    let made = c.state_of.ensures in
+    let e = c.write-written.ensures in
+    record { number = refused _ _ _ _ made _ e.answer c.if-refusal-ne0.true; buffer = kept _ _ _ _ made _ e.answer _ e.buffer }
 
-returns : tie.Need-returns
+pub overflow_cast-result-2 : goal.overflow_cast-result-2
+overflow_cast-result-2 c =
+    let made = c.state_of.ensures in
+    omega (arith, small _ _ _ _ made _ c.write-written.ensures.answer c.if-refusal-ne0.false)
+
+pub returns : goal.returns
 returns c =
-    let written = c.before.before.before in
-    let made = written.before.before.state_of.ensures in
-    let e = written.write.ensures in
-    (refused _ _ _ _ made _ e.0 c.if1.true, kept _ _ _ _ made _ e.0 _ e.1)
-
-cast-result-2 : tie.Need-overflow-cast-result-2
-cast-result-2 c =
-    let written = c.before.before.before.before in
-    let made = written.before.before.state_of.ensures in
-    omega (arith, small _ _ _ _ made _ written.write.ensures.0 c.before.if1.false)
-
-same-length-2 : tie.Need-same-length-2
-same-length-2 c = search rules
-
-returns-2 : tie.Need-returns-2
-returns-2 c =
-    let written = c.before.before.before.before in
-    let made = written.before.before.state_of.ensures in
-    let e = written.write.ensures in
-    (accepted _ _ _ _ made _ e.0 c.before.if1.false, kept _ _ _ _ made _ e.0 _ e.1)
-
-pub panelrights_write_file_spec : {M : Type 1} → statement M
-panelrights_write_file_spec =
-    tie.close
-    (tie.spec (λ c κs. tt) (λ c κs. tt) (λ c. search rules) (λ c. search rules) same_length returns cast-result-2 same-length-2 returns-2)
+    let made = c.state_of.ensures in
+    let e = c.write-written.ensures in
+    record { number = accepted _ _ _ _ made _ e.answer c.if-refusal-ne0.false; buffer = kept _ _ _ _ made _ e.answer _ e.buffer }

@@ -5,7 +5,6 @@ use Prim.Native.Nat.{ℕ, ◌+◌, ◌*◌}
 use mathlib.Core.Path.{◌≡◌, ap, sym, ◌∙◌}
 use mathlib.Core.List.{List}
 use native.Mathlib.Omega.{arith}
-use borrow.Author.Rules.{rules}
 use Rattle.state.specs.Site.{Site}
 use Rattle.records.specs.Record.{state_of, number_for, stored}
 use Rattle.recipes.specs.Run.{RecipeVerdict, recipe_of}
@@ -13,8 +12,7 @@ use Rattle.recipes.specs.declared.Call.{Call}
 use Rattle.interface.specs.Interface.{placed, recipe_answer, recipe_buffer}
 use Rattle.interface.proofs.Steps.{recipes, accepted_answer}
 use Rattle.capi.proofs.Changing.{unchanged, written}
-use Rattle.capi.proofs.panelrights_recipe.Statement.{statement}
-use Rattle.capi.proofs.panelrights_recipe.Tie as tie
+use Rattle.capi.proofs.panelrights_recipe.Goals as goal
 
 -- the answer is 0 exactly where the number is
 not_zero : (place number : ℕ) → (number ≡ 0 → ⊥) → place * 256 + number ≡ 0 → ⊥
@@ -30,25 +28,12 @@ module _ (state bytes : List ℕ) (call : Call) {s : Site} {v : RecipeVerdict} (
       let none = accepted_answer s bytes call (sym (ap (λ (o : RecipeVerdict). o.refusal) given) ∙ z) in
       written (recipes bytes call) state told none (ap (λ (o : RecipeVerdict). o.state) given) e w
 
-same_length : tie.Need-same-length
-same_length c = search rules
+pub returns-then-refusal-ne0 : goal.returns-then-refusal-ne0
+returns-then-refusal-ne0 c =
+    let p = left_alone _ _ _ c.state_of.ensures c.obey-outcome.ensures c.if-refusal-ne0.true in
+    record { number = p.0; buffer = p.1 }
 
-returns : tie.Need-returns
+pub returns : goal.returns
 returns c =
-    let refused = c.before in
-    left_alone _ _ _ refused.before.before.state_of.ensures refused.before.obey.ensures refused.if1.true
-
-same-length-2 : tie.Need-same-length-2
-same-length-2 c = search rules
-
-returns-2 : tie.Need-returns-2
-returns-2 c =
-    let told = c.before.before.before.before.before in
-    let write = c.before.before.write.ensures in
-    changed _ _ _ told.before.before.state_of.ensures told.before.obey.ensures told.if1.false write.0 write.1
-
-pub panelrights_recipe_spec : {M : Type 1} → statement M
-panelrights_recipe_spec =
-    tie.close
-    (tie.spec (λ c κs. tt) (λ c κs. tt) (λ c. search rules) (λ c. search rules) (λ c. search rules) (λ c. search rules) same_length returns
-    (λ c κs. tt) (λ c. search rules) same-length-2 returns-2)
+    let p = changed _ _ _ c.state_of.ensures c.obey-outcome.ensures c.if-refusal-ne0.false c.write.ensures.number c.write.ensures.bytes in
+    record { number = p.0; buffer = p.1 }
