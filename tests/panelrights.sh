@@ -24,6 +24,15 @@ expect_bytes() {
     expect "$name" "$expected" <"$work/input"
 }
 
+# A read or a write that fails is the program's error: it has the status 1, and says so on standard error alone.
+expect_error() {
+    local name=$1 ended=0
+    "$program" >"${2-$work/printed}" 2>"$work/complaint" || ended=$?
+    [ "$ended" = 1 ] || { echo "panelrights $name: it ended with $ended"; exit 1; }
+    [ -n "${2-}" ] || [ ! -s "$work/printed" ] || { echo "panelrights $name: it printed something"; exit 1; }
+    grep -q '^Error: ' "$work/complaint" || { echo "panelrights $name: it did not complain"; exit 1; }
+}
+
 # So many copies of a line; `yes` ends by a closed pipe.
 repeated() {
     yes "$1" | head -n "$2" || true
@@ -63,4 +72,7 @@ expect_bytes 65537 'the last line would be accepted' "$work/expected" < <(repeat
 expect_bytes 65537 'in one line' "$work/expected" < <(head -c 65537 /dev/zero)
 expect 'input without end' "$work/expected" < <(yes '1 0 1 0')
 
-echo "panelrights: $passed inputs, each printed as it should be"
+expect_error 'a folder for an input' <"$work"
+expect_error 'a full disk' /dev/full <tests/panelrights/session.in
+
+echo "panelrights: $passed inputs, each printed as it should be; a read and a write that fail"
