@@ -21,6 +21,7 @@ use Rattle.instructions.specs.declared.Decoded.{Decoded}
 use Rattle.instructions.specs.declared.Decoded.TheVariants.{Fits, NoCode, OutOfRange}
 use Rattle.instructions.proofs.Laws.{fits_exactly}
 use Rattle.successors.specs.Successor.{changed, successor_of}
+use Rattle.successors.proofs.Misfit.{unfit}
 use Rattle.record_changes.proofs.change.Goals as goal
 
 -- bytes that fit an instruction have their numbers in range
@@ -48,12 +49,6 @@ by_row : (s : Site) (x : Bytes) (y : Instruction) (r : Rule) (bytes : List ℕ) 
 by_row s x y r bytes e row t =
     t ∙ ap (λ (z : Rule). bytes_of (changed s z.target z.adds x.activator x.a x.b)) row
     ∙ ap (λ (d : Decoded). bytes_of (successor_of s x d)) (sym e)
-
--- four bytes that fit no instruction change nothing
-unfit : (s : Site) (x : Bytes) (d : Decoded) → ((y : Instruction) → d ≡ Fits y → ⊥) → s ≡ successor_of s x d
-unfit s x (Fits y) h = absurd (h y refl)
-unfit s x NoCode h = refl
-unfit s x OutOfRange h = refl
 
 -- what has the length of a record holds one, and is changed as one
 laid : (b : List ℕ) {bytes : List ℕ} (t : Site) → length b ≡ record_size → bytes ≡ bytes_of t → bytes ≡ stored b t
