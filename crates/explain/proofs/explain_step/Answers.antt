@@ -123,8 +123,8 @@ lost_without-requires c =
     let s = c.args.s in
     let eleven = c.if-refusal-ne11.false in
     let whole : Sound (site s) =
-        (sound_decided (site s) (shaped_by_type s _ c.well_formed.0.1.1)).0
-        (so (is_sound (site s)) (sym (ap not c.is_sound.ensures.equation) ∙ ap not c.if-not-is_sound.false)) in
+    (sound_decided (site s) (shaped_by_type s _ c.well_formed.0.1.1)).0
+    (so (is_sound (site s)) (sym (ap not c.is_sound.ensures.equation) ∙ ap not c.if-not-is_sound.false)) in
     let sized : Fits s = fits_by_type s _ c.well_formed.0.1.1 in (
       subst (λ (r : Rule). T (bears_access r.target)) (sym c.rule_of-rule.ensures) (removes s _ _ (fitting at) _ (numbered at) eleven).1,
       subst (λ (r : Rule). T (fits r.target c.args.b)) (sym c.rule_of-rule.ensures) (b_fits s _ _ (fitting at) _ (numbered at) eleven),

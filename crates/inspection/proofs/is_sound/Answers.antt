@@ -73,13 +73,13 @@ pub returns-then-not-are_disjoint : goal.returns-then-not-are_disjoint
 returns-then-not-are_disjoint c =
     let at = goal.at.returns-then-not-are_disjoint c in
     let e =
-        own_import _ (formed at.Else-not-are_well_formed)
-        (sym (apart_is at.After-are_disjoint) ∙ not-true _ (ap not c.if-not-are_disjoint.true)) in
+    own_import _ (formed at.Else-not-are_well_formed)
+    (sym (apart_is at.After-are_disjoint) ∙ not-true _ (ap not c.if-not-are_disjoint.true)) in
     record { equation = e; meaning = meaning _ (shaped_by_type c.args.s _ c.well_formed.0.1.1) false e }
 
 pub returns : goal.returns
 returns c =
     let at = goal.at.returns c in
     let e =
-        valid_is at.After-are_valid ∙ by_validity _ (formed at.Else-not-are_well_formed) (apart at.Else-not-are_disjoint) in
+    valid_is at.After-are_valid ∙ by_validity _ (formed at.Else-not-are_well_formed) (apart at.Else-not-are_disjoint) in
     record { equation = e; meaning = meaning _ (shaped_by_type c.args.s _ c.well_formed.0.1.1) _ e }
