@@ -4,10 +4,14 @@ PREFIX = /usr/local
 DESTDIR =
 CFLAGS = -std=c99 -O2 -Wall -Wextra -pedantic
 
-.PHONY: run lib program install examples test edits bench clean
+.PHONY: run check lib program install examples test edits bench clean
 
 run:
 	@tools/run.sh
+
+check:
+	@mkdir -p target
+	@rt all check --jobs "$$(nproc)" >target/check.log 2>&1 || { cat target/check.log; exit 1; }
 
 lib:
 	@mkdir -p target/lib

@@ -31,7 +31,7 @@ said=$(grep -E '^[0-9]+ rt: ok; ' "$report") || fail 'rt ci has no line that beg
 edits=(crates/*/must-fail/*.edit)
 grep -q "; must-fail edits: ${#edits[@]} refused" <<<"$said" || fail "of ${#edits[@]} must-fail edits: $said"
 
-make --no-print-directory lib
+make --no-print-directory check lib
 mkdir -p target/bin
 cp crates/panelrights/out/panelrights target/bin
 tools/edits.sh --refused

@@ -89,11 +89,10 @@ is_unread() {
     [ -n "$errors" ] && ! grep -qvE 'has no field|is not in scope|has no `|was not admitted' <<<"$errors"
 }
 
-# Tries the edits that name a function, several side by side.
+# Tries the edits that name a function.
 try_edits() {
     grep -lE "^# (claim $word, )*$word::" crates/*/must-fail/*.edit |
-        sed -E 's|^crates/([^/]*)/must-fail/(.*)\.edit$|\1/\2|' |
-        xargs -P "$(nproc)" -n 1 tools/try.sh >/dev/null
+        sed -E 's|^crates/([^/]*)/must-fail/(.*)\.edit$|\1/\2|' | xargs tools/try.sh >/dev/null
 }
 
 # The functions that the faults of an edit are planted in, with a comma before and behind each.

@@ -1,33 +1,54 @@
 #!/usr/bin/env bash
-# Tries must-fail edits: checks a copy of the crate with the edit in it, and prints what the prover says of it, above all
-# a line 'fn NAME: ..' for each function. What is said is kept in target/edits/CRATE/LABEL.log, and an edit is tried again
-# only where something has changed that such a check reads.
+# Tries must-fail edits: checks a copy of the crate with the edit in it, several side by side, and prints what the prover
+# says of each, above all a line 'fn NAME: ..' for each function. What is said is kept in target/edits/CRATE/LABEL.log,
+# and an edit is tried again only where something has changed that such a check reads.
 set -euo pipefail
 export LC_ALL=C
 cd "$(dirname "$0")/.."
 
 [ $# -gt 0 ] || { echo 'usage: try.sh CRATE/LABEL ..' >&2; exit 2; }
-top=$PWD
-room=$(mktemp -d)
-trap 'rm -rf "$room"' EXIT
 
-# The crate and those below it, a line each; some more than once.
+edit_of() {
+    echo "crates/${1%/*}/must-fail/${1#*/}.edit"
+}
+
+log_of() {
+    echo "target/edits/$1.log"
+}
+
+# The crate and those below it, a line each.
 with_below() {
-    local below=() it
-    echo "$1"
-    read -ra below < <(sed -nE "s/#.*//; s/^$1( [^:]*)?:(.*)/\2/p" crates.txt)
-    for it in "${below[@]}"; do with_below "$it"; done
+    awk -v wanted="$1" '
+        { sub(/#.*/, "") }
+        match($0, /:/) { name = $1; sub(/:.*/, "", name); sub(/[^:]*:/, ""); below[name] = $0; order[++crates] = name }
+        END {
+            in_it[wanted] = 1
+            for (i = crates; i > 0; i--) {
+                if (!(order[i] in in_it)) continue
+                count = split(below[order[i]], names, " ")
+                for (k = 1; k <= count; k++) in_it[names[k]] = 1
+            }
+            for (i = 1; i <= crates; i++) if (order[i] in in_it) print order[i]
+        }' crates.txt
+}
+
+parts_of() {
+    local part
+    for part in src specs proofs; do
+        [ ! -d "crates/$1/$part" ] || echo "crates/$1/$part"
+    done
 }
 
 # A sum of what a check of the crate with the edit reads: the kit, the edit, and the files of the crate and of those
 # below it.
 sum_of() {
-    local crate=$1 edit=$2 folders=() below
-    for below in $(with_below "$crate" | sort -u); do
-        folders+=("crates/$below/src")
-        for part in specs proofs; do [ ! -d "crates/$below/$part" ] || folders+=("crates/$below/$part"); done
-    done
-    { rt version; cat "$edit"; find "${folders[@]}" -type f -print0 | sort -z | xargs -0 sha256sum; } | sha256sum
+    local folders
+    mapfile -t folders < <(for it in $(with_below "${1%/*}"); do parts_of "$it"; done)
+    { rt version; cat "$(edit_of "$1")"; find "${folders[@]}" -type f -print0 | sort -z | xargs -0 sha256sum; } | sha256sum
+}
+
+is_tried() {
+    [ "$(head -n 1 "$(log_of "$1")" 2>/dev/null)" = "$2" ]
 }
 
 # Makes the changes of the edit in the crate that stands in a folder.
@@ -47,22 +68,51 @@ apply() {
     done <"$edit"
 }
 
-try() {
-    local crate=${1%/*} edit=crates/${1%/*}/must-fail/${1#*/}.edit log=target/edits/$1.log sum it
-    sum=$(sum_of "$crate" "$edit")
-    [ "$(head -n 1 "$log" 2>/dev/null)" != "$sum" ] || return 0
-    rm -rf "$room/crates"
-    mkdir -p "$room/crates/$crate" "target/edits/$crate"
-    cp crates.txt "$room"
-    for it in crates/*; do [ "$it" = "crates/$crate" ] || ln -s "$top/$it" "$room/crates"; done
-    for it in src specs proofs; do [ ! -d "crates/$crate/$it" ] || cp -r "crates/$crate/$it" "$room/crates/$crate"; done
-    apply "$edit" "$room/crates/$crate"
-    (cd "$room/crates/$crate" && rt check --jobs 1) >"$room/said" 2>&1 || true
-    { echo "$sum"; cat "$room/said"; } >"$room/log"
-    mv "$room/log" "$log"
+# By links, where the file system has them; no check writes into a file that is there.
+put() {
+    mkdir -p "$2"
+    cp -rl "$1" "$2" 2>/dev/null || cp -r "$1" "$2"
 }
 
+try() (
+    crate=${1%/*} log=$(log_of "$1")
+    room=$(mktemp -d)
+    trap 'rm -rf "$room"' EXIT
+    for below in $(with_below "$crate"); do
+        grep -E "^$below( |:)" crates.txt >>"$room/crates.txt"
+        [ "$below" != "$crate" ] || continue
+        for part in $(parts_of "$below"); do put "$part" "$room/crates/$below"; done
+        [ ! -d "crates/$below/out/rlib" ] || put "crates/$below/out/rlib" "$room/crates/$below/out"
+    done
+    mkdir -p "$room/crates/$crate" "target/edits/$crate"
+    for part in $(parts_of "$crate"); do cp -r "$part" "$room/crates/$crate"; done
+    apply "$(edit_of "$1")" "$room/crates/$crate"
+    { echo "$2"; (cd "$room/crates/$crate" && rt check --jobs 1 2>&1) || true; } >"$room/log"
+    mv "$room/log" "$log"
+)
+
+left=() running=0
+declare -A sum=() is_below=()
 for it; do
-    try "$it"
-    cat "target/edits/$it.log"
+    sum[$it]=$(sum_of "$it")
+    is_tried "$it" "${sum[$it]}" || left+=("$it")
+done
+for it in "${left[@]}"; do
+    for below in $(with_below "${it%/*}"); do [ "$below" = "${it%/*}" ] || is_below[$below]=1; done
+done
+mkdir -p target/edits
+mapfile -t crates < <(sed -nE 's/^([a-z0-9_]+)[^:]*:.*/\1/p' crates.txt)
+for crate in "${crates[@]}"; do
+    [ -n "${is_below[$crate]-}" ] || continue
+    (cd "crates/$crate" && rt lib) >target/edits/lib.log 2>&1 || { cat target/edits/lib.log >&2; exit 1; }
+done
+for it in "${left[@]}"; do
+    [ "$running" -lt "$(nproc)" ] || { wait -n || true; running=$((running - 1)); }
+    try "$it" "${sum[$it]}" &
+    running=$((running + 1))
+done
+wait
+for it; do
+    is_tried "$it" "${sum[$it]}" || { echo "try: $it was not tried" >&2; exit 1; }
+    cat "$(log_of "$it")"
 done
