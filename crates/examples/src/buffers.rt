@@ -4,6 +4,7 @@
 ghost use Rattle.std.specs.Prelude.{◌≤◌};
 
 use std::io;
+use std::io::Read;
 
 fn print(rt: &impl Print, text: &[u8]) -> io::Result<()> {
     rt.write_all(text)
@@ -38,9 +39,9 @@ fn too_long(rt: &impl Print, input: &[u8]) -> io::Result<()> {
 }
 
 // Both, each into its buffers.
-pub fn run(rt: &(impl Print + Input)) -> io::Result<()> {
-    let mut input = [0u8; 4096];
-    let count = input_reader::read_full(&mut rt.reader(), &mut input)?;
-    session(rt, &input[0..count])?;
+pub fn run<R: Read>(rt: &impl Print, input: &mut R) -> io::Result<()> {
+    let mut bytes = [0u8; 4096];
+    let count = input_reader::read_full(input, &mut bytes)?;
+    session(rt, &bytes[0..count])?;
     too_long(rt, &[0u8; 65537])
 }

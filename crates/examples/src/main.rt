@@ -255,6 +255,6 @@ fn run_cases(rt: &impl Print) -> io::Result<()> {
 // A read or a write that fails is the error of the program.
 fn main(rt: HostRuntime) -> io::Result<()> {
     run_cases(&rt)?;
-    buffers::run(&rt)?;
+    buffers::run(&rt, &mut rt.stdin())?;
     labels::run(&rt)
 }
