@@ -2,12 +2,12 @@
 -- set.
 --     bit                                  whether a bit is set
 --     word                                 the number whose bits are the values of a test
---     with_bit                              a row with a place put in or taken out
+--     with_bit                             a row with a place put in or taken out
 --     union, intersection, difference      of two rows
---     is_empty, is_subset                    tests; that they decide what their names say is claimed (Claims)
+--     is_empty, is_subset                  tests; that they decide what their names say is claimed (Claims)
 --     size                                 how many places are in a row
---     Lowest, lowest, without_lowest        the lowest place in a row, and the row without it
---     Single, is_single                     exactly one place is in a row
+--     Lowest, lowest, without_lowest       the lowest place in a row, and the row without it
+--     Single, is_single                    exactly one place is in a row
 use Rattle.std.specs.Prelude.{ℕ, zero, suc, ◌+◌, ◌*◌, ◌/◌, ◌%◌, ◌^◌, ◌≤◌, ◌<◌, ◌≡◌, Bool, true, false, ◌&&◌, ◌||◌, not, cond, T, eqb}
 
 -- bit k of n is set: n / 2 ^ k is odd

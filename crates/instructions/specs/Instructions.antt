@@ -2,7 +2,7 @@
 -- each.
 --     Bytes                      "Four bytes: code, activator (a user), a, b"
 --     rule                       the paper's table; its columns are enums of the code, and a row is the struct `Rule`
---     instruction_of              "A code from 1 to 12 picks the kind"
+--     instruction_of             "A code from 1 to 12 picks the kind"
 use Rattle.std.specs.Prelude.{ℕ, zero, suc, Bool, true, false, List, [], ◌∷◌}
 use Rattle.instructions.specs.declared.Instruction.{Instruction}
 use Rattle.instructions.specs.declared.Instruction.TheVariants.{ListArea, UnlistArea, AddOwner, RemoveOwner}

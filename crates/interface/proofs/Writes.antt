@@ -1,10 +1,10 @@
 -- What the writer gives with the state of a buffer is what the interface gives with the buffer, whether its bytes are a
 -- record or not.
---     answer_is, buffer_is          the answer, and the file's buffer afterwards
---     Wrote, Refuses, outcome       the two cases: a file was written, or there is a refusal
---     wrote                         the first, where it can be written
---     wrote_small, wrote_below      a length is below 65,536, and what is below is a length
---     refused_answer, written_answer, written_small     the answer, by the writer's own
+--     answer_is, buffer_is                           the answer, and the file's buffer afterwards
+--     Wrote, Refuses, outcome                        the two cases: a file was written, or there is a refusal
+--     wrote                                          the first, where it can be written
+--     wrote_small, wrote_below                       a length is below 65,536, and what is below is a length
+--     refused_answer, written_answer, written_small  the answer, by the writer's own
 -- Assumes nothing.
 use Prim.Native.Nat.{ℕ, ◌+◌, ◌≤◌, ◌<◌}
 use mathlib.Core.Path.{◌≡◌, refl, sym, ap, ap₂, ◌∙◌}

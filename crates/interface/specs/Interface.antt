@@ -1,22 +1,22 @@
 -- The C interface: what each function answers, and what the buffers hold afterwards. A state crosses as its record of
 -- 1,040 bytes (records, Record); a buffer is the list of its bytes, and its length is that of the list. The words in
 -- quotation marks are those of include/panelrights.h.
---     record_size                     panelrights_state_bytes (records, Record)
+--     record_size                      panelrights_state_bytes (records, Record)
 --     number_for, founding_buffer      panelrights_founding (the first: records, Record)
 --     answered_by, changed_by          what panelrights_step and panelrights_recipe have in common
 --     step_number, step_buffer         panelrights_step
 --     recipe_answer, recipe_buffer     panelrights_recipe
---     access_number                   panelrights_access
+--     access_number                    panelrights_access
 --     explain_answer, explain_buffer   panelrights_explain
 --     explain_step_answer              panelrights_explain_step
 --     file_number, file_buffer         panelrights_read_file
---     place_number                    what panelrights_label and panelrights_labels have in common
---     label_number                    panelrights_label
---     block_number                    panelrights_labels
+--     place_number                     what panelrights_label and panelrights_labels have in common
+--     label_number                     panelrights_label
+--     block_number                     panelrights_labels
 --     write_answer, write_buffer       panelrights_write_file
---     lowest                         panelrights_lowest_mark (marks, Marks)
---     run_buffer                      one call of panelrights_step after the other
---     commands_buffer                 one call of panelrights_step or panelrights_recipe after the other
+--     lowest                           panelrights_lowest_mark (marks, Marks)
+--     run_buffer                       one call of panelrights_step after the other
+--     commands_buffer                  one call of panelrights_step or panelrights_recipe after the other
 use Rattle.std.specs.Prelude.{ℕ, ◌+◌, ◌*◌, cond, List, [], ◌∷◌, eqb}
 use Rattle.state.specs.Site.{Site, founding}
 use Rattle.access.specs.Answer.{answer_number}

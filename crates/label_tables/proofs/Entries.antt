@@ -1,6 +1,6 @@
 -- The entries of a table of labels.
---     is_in_range, ascends            what the tests of the table say of the first two bytes of its entries
---     text_at_lem                      and of each byte of their texts and filler
+--     is_in_range, ascends         what the tests of the table say of the first two bytes of its entries
+--     text_at_lem                  and of each byte of their texts and filler
 --     text_in_range, filler_zero   what a byte of a text is, and one of its filler
 --     entry_long, entry_byte       the text of an entry: how long it is, and its bytes
 --     text_there, text_none        the text of an area's label, and without one

@@ -2,9 +2,9 @@
 -- the text (bytes 32 to 126), then zeros." A table is the list of its own bytes.
 --     label_count, label_area, label_length     how many entries there are, and the first two bytes of an entry
 --     labels_fit, labels_ascend, labels_listed  what refusals 26, 27 and 28 ask of the table
---     label_index                             which entry is that of an area
---     entry_text, label_of                     the text of an entry, and of an area's label
---     LawfulBlock                            a table that has no partial entry, and passes 26 and 27
+--     label_index                               which entry is that of an area
+--     entry_text, label_of                      the text of an entry, and of an area's label
+--     LawfulBlock                               a table that has no partial entry, and passes 26 and 27
 use Rattle.std.specs.Prelude.{ℕ, ◌+◌, ◌-◌, ◌*◌, ◌/◌, ◌≡◌, Bool, ◌&&◌, cond, List, [], T, eqb, ltb, leb, length, get_or, take, drop}
 use Rattle.state.specs.Below.{each_below, first_below}
 use Rattle.state.specs.Cells.{Members, member}

@@ -1,6 +1,6 @@
 -- The first line of some bytes.
---     first_ended, first_unended     the first byte 10 ends it, or none does
---     first_line_number, no_line, first_line, first_size, lines_at_most     the claims
+--     first_ended, first_unended                                         the first byte 10 ends it, or none does
+--     first_line_number, no_line, first_line, first_size, lines_at_most  the claims
 -- Assumes nothing.
 use Prim.Native.Nat.{ℕ, zero, suc, ◌≤◌, ◌<◌}
 use mathlib.Core.Path.{◌≡◌, refl, sym, ap, ◌∙◌}

@@ -1,6 +1,6 @@
 -- The text of a line as four numbers.
 --     all_below                 the test of a readable line: each number is below 256
---     numbers_of                 the numbers of the parts
+--     numbers_of                the numbers of the parts
 --     text_whole, text_first    where no space is left, and where one is: the number in front of it, and those behind
 --     text_four                 what stands behind the third space is the fourth number, or holds a space and is none
 --     readable_exactly          the claim

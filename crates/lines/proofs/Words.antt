@@ -1,10 +1,10 @@
 -- The number of a word.
---     decimal_lacks                             no byte below 48 is among those of a number
---     number_is, number_at, number_none         the word is the bytes of a number 0 to 255, or of none
---     number_exactly                            the claim
---     number_lacks                              a word that stands for a number lacks every byte below 48
---     number_empty                              a word of no byte
---     NumberTo, read_first, read_next, read_last     a word read byte by byte
+--     decimal_lacks                               no byte below 48 is among those of a number
+--     number_is, number_at, number_none           the word is the bytes of a number 0 to 255, or of none
+--     number_exactly                              the claim
+--     number_lacks                                a word that stands for a number lacks every byte below 48
+--     number_empty                                a word of no byte
+--     NumberTo, read_first, read_next, read_last  a word read byte by byte
 -- Assumes nothing.
 use Prim.Native.Nat.{ℕ, ◌+◌, ◌-◌, ◌*◌, ◌/◌, ◌%◌, ◌≤◌, ◌<◌}
 use mathlib.Core.Path.{◌≡◌, refl, sym, ap, ap₂, subst, ◌∙◌}

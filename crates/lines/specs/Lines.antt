@@ -1,6 +1,6 @@
 -- The lines of an input (document 01, 'The program PanelRights'): "lines of four decimal numbers 0 to 255, without
 -- leading zeros, one space between, each line ended by byte 10; a last line lacking that is unreadable."
---     parts       the parts of some bytes between those of one value
+--     parts        the parts of some bytes between those of one value
 --     line_of      what a line says
 --     lines_of     the lines of an input
 --     line_number  the paper's number for a line

@@ -1,6 +1,6 @@
 -- A buffer that is too short for a text, and one that is not.
 --     short_written, short_buffer, fits_written, fits_buffer    what is answered, and the buffer
---     laid_front                                                  a text that fits, from the buffer's front on
+--     laid_front                                                a text that fits, from the buffer's front on
 --     counted_short, counted_fits                               both, where the text was counted over a buffer of no bytes
 -- Assumes nothing.
 use Prim.Native.Nat.{ℕ, ◌+◌, ◌≤◌, ◌<◌}

@@ -1,6 +1,6 @@
 -- What becomes of a buffer that a text is written into, and what is answered.
 --     laid, place_behind      a text from a place on, as far as the buffer goes
---     written_of, buffer_of    a whole text, or nothing where the buffer is too short
+--     written_of, buffer_of   a whole text, or nothing where the buffer is too short
 use Rattle.std.specs.Prelude.{ℕ, ◌+◌, min, Bool, cond, List, ◌++◌, ltb, length, drop}
 use Rattle.std.proofs.lemmas.List.Edits.{sets}
 use Rattle.output.specs.declared.Written.{Written}

@@ -1,11 +1,11 @@
 -- A table of pairs in a site file (document 01, 'The site file'): "Pairs are two bytes as written above." In all five
 -- tables the second number is an area, so the limit of the first is the one parameter. A table is the list of its own
 -- bytes.
---     pair_count, Whole         how many pairs there are, and that none is partial
+--     pair_count, Whole          how many pairs there are, and that none is partial
 --     first_byte, second_byte    the two bytes of a pair
 --     pairs_fit, pairs_ascend    what refusals 26 and 27 ask of the table
 --     with_pairs, has_pair       the relation that the table holds
---     table_of                  the table of a relation
+--     table_of                   the table of a relation
 use Rattle.std.specs.Prelude.{ℕ, zero, suc, ◌+◌, ◌-◌, ◌*◌, ◌/◌, ◌%◌, ◌≡◌, Bool, true, ◌&&◌, ◌||◌, cond, List, [], ◌∷◌, ◌++◌, eqb, ltb, length, get_or}
 use Rattle.state.specs.Below.{each_below, some_below}
 use Rattle.state.specs.Cells.{Pairs, width, put}

@@ -1,6 +1,6 @@
 -- A recipe (document 02, point 1, 'Site recipes'): its bytes, the instructions that they are with what comes with a
 -- call, and what is refused as 14.
---     instruction_size, instruction_count, byte_of    the bytes of each instruction
+--     instruction_size, instruction_count, byte_of   the bytes of each instruction
 --     operand, instruction_at, recipe_instructions   the instructions, with the activator and the parameters of a call
 --     recipe_sized, misformed_operand, misformed     14
 use Rattle.std.specs.Prelude.{ℕ, ◌+◌, ◌*◌, ◌/◌, ◌%◌, Bool, ◌&&◌, ◌||◌, not, cond, List, eqb, ltb, leb, length, get_or}

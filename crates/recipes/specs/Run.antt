@@ -1,5 +1,5 @@
 -- How a recipe runs (document 02, point 1, 'Site recipes'): "entirely or not at all".
---     RecipeVerdict          a number, a place and a state
+--     RecipeVerdict           a number, a place and a state
 --     recipe_refusals         12 and 14, in their order
 --     ran_from                the instructions in turn
 --     recipe_of               what a recipe gives with a record, both of any content

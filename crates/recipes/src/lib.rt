@@ -78,8 +78,8 @@ fn is_misformed_operand(kind: u8, value: u8) -> bool
 
 // Byte i of instruction k.
 fn byte_of(recipe: &[u8], k: usize, i: usize) -> u8
-    requires k_bound { k < instruction_count recipe.now }
-    requires i_lt_instruction_size { i < instruction_size }
+    requires instruction_inside { k < instruction_count recipe.now }
+    requires byte_inside { i < instruction_size }
     ensures { result ≡ byte_of recipe.now k i }
 {
     recipe[k * INSTRUCTION_SIZE + i]
@@ -120,8 +120,8 @@ struct FourBytes {
 
 // The number that the kind in byte i of instruction k and the value behind it stand for.
 fn operand_at(recipe: &[u8], k: usize, i: usize, call: Call) -> u8
-    requires k_bound { k < instruction_count recipe.now }
-    requires i_bound { i + 1 < instruction_size }
+    requires instruction_inside { k < instruction_count recipe.now }
+    requires value_inside { i + 1 < instruction_size }
     ensures { result
         ≡ operand call.parameters (byte_of recipe.now k i) (byte_of recipe.now k (i + 1)) }
 {

@@ -3,9 +3,9 @@
 -- bit for each place, 1 where a number is listed or a pair is there and 0 where not, eight places a byte, the lowest in
 -- the lowest bit. Here and above, a record is these bytes.
 --     list_start, pair_start, record_size     where each set and each relation begins, and how many bytes there are
---     places, bytes_of                      the places of a state, and the bytes of its record
+--     places, bytes_of                        the places of a state, and the bytes of its record
 --     is_sized, is_record, state_of           whether bytes are a record, and of which state
---     number_for, stored                    a state written into a buffer
+--     number_for, stored                      a state written into a buffer
 use Rattle.std.specs.Prelude.{ℕ, ◌+◌, ◌*◌, ◌/◌, ◌%◌, Bool, false, ◌&&◌, cond, List, ◌++◌, eqb, ltb, length, get_or}
 use Rattle.bits.specs.Bits.{bit, word}
 use Rattle.state.specs.Below.{each_below}

@@ -1,9 +1,9 @@
 -- Not needed to believe a claim. What the functions that turn a relation round promise each other. An exchange takes a
 -- row as blocks of so many places. Its mask has every other block, the lowest first.
---     is_mask                        whether a number is the mask of a block's size
+--     is_mask                         whether a number is the mask of a block's size
 --     even_bit, odd_bit               a bit of the two rows that an exchange makes of two
 --     from_row, from_place            where place j of row i of an exchange comes from
---     exchanged                     the rows after an exchange
+--     exchanged                       the rows after an exchange
 use Rattle.std.specs.Prelude.{ℕ, ◌+◌, ◌-◌, ◌/◌, ◌%◌, Bool, ◌&&◌, not, cond, leb, eqb, get_or}
 use Rattle.std.specs.Bool.{beq}
 use Rattle.state.specs.Below.{each_below}

@@ -1,7 +1,7 @@
 -- The writer of site files (document 02, point 3): "from a sound state and a block of 32-byte label entries into a lent
 -- buffer, with the length as the answer." The bytes that it writes are `encode` of the state and its labels
 -- (Encode).
---     write_checks, write_refusal    the refusals, in the paper's order
+--     write_checks, write_refusal   the refusals, in the paper's order
 --     write_of                      what is answered
 --     buffer_after                  what the buffer holds afterwards
 use Rattle.std.specs.Prelude.{ℕ, ◌%◌, Bool, ◌||◌, not, cond, List, [], ◌∷◌, ◌++◌, eqb, length, drop}

@@ -1,7 +1,7 @@
 -- Whatever holds of each table, and a test of each.
---     Each, content_of_lem          a fact of each table
+--     Each, content_of_lem      a fact of each table
 --     test_of, by_test          what a test of each table says, and what it takes
---     pair_size_lem                 the size of an element of the five tables of pairs
+--     pair_size_lem             the size of an element of the five tables of pairs
 --     field_by, size_by         a field of the header, and how many bytes there are, by a table's row
 --     seven, each_of_six        truth values joined from the left, as a function joins them
 -- Assumes nothing.

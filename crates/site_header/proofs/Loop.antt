@@ -1,5 +1,5 @@
 -- A loop over the tables: what holds so far, and what is asked of the tables that are left, decide.
---     left_from                  the tables that are left
+--     left_from                 the tables that are left
 --     one_more, none_left       one table more, and none left
 --     six                       how many there are
 -- Assumes nothing.

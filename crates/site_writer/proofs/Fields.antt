@@ -1,5 +1,5 @@
 -- The fields of a header, by how many pairs each relation has.
---     pairs_in        how many pairs a relation has
+--     pairs_in       how many pairs a relation has
 --     fields_fit     16 bits hold the length of the file
 --     fields_are     the fields
 -- Assumes nothing.

@@ -1,19 +1,19 @@
 -- `each_below`, `count_below`, `some_below` and `first_below`: one number more, for a loop, and what they say.
---     each_none, each_more, each_goes     before the first turn, one turn more, and one more that meets the test
---     each_add                            so many numbers more
---     each_at, each_by                    each number meets the test
---     each_stop, each_done                a number that does not, and none left
---     count_none, count_more              before the first turn, and one turn more
---     count_one, one_counted              a count of one is exactly one number
---     some_none, some_more                no number, and one number more
---     some_goes                           one number more that does not meet the test
---     some_at, some_by                    some number meets the test
---     some_stop, some_done                a number that does, and none left
---     first_is, first_none, first_met_lem     the number that meets it while none before does, none at all, and that it does meet it
---     first_under, first_within           none before it meets it, and it is below n, or n
---     none_at                             where none meets the test, each does not
---     first_found, first_or_none          where some number meets the test, the first does, and else it is n
---     some_same, first_same               of two tests that agree below n
+--     each_none, each_more, each_goes      before the first turn, one turn more, and one more that meets the test
+--     each_add                             so many numbers more
+--     each_at, each_by                     each number meets the test
+--     each_stop, each_done                 a number that does not, and none left
+--     count_none, count_more               before the first turn, and one turn more
+--     count_one, one_counted               a count of one is exactly one number
+--     some_none, some_more                 no number, and one number more
+--     some_goes                            one number more that does not meet the test
+--     some_at, some_by                     some number meets the test
+--     some_stop, some_done                 a number that does, and none left
+--     first_is, first_none, first_met_lem  the number that meets it while none before does, none at all, and that it does meet it
+--     first_under, first_within            none before it meets it, and it is below n, or n
+--     none_at                              where none meets the test, each does not
+--     first_found, first_or_none           where some number meets the test, the first does, and else it is n
+--     some_same, first_same                of two tests that agree below n
 -- Assumes nothing.
 use Prim.Native.Nat.{ℕ, zero, suc, ◌+◌, ◌≤◌, ◌<◌}
 use mathlib.Core.Path.{◌≡◌, refl, sym, ap, ap₂, subst, ◌∙◌}

@@ -1,10 +1,10 @@
 -- The first check that is met: how the number is found check by check, and what it says that none is met.
---     met, passed, none_met   the first check decides, or the rest do; or there is none
---     first_of_two            of two tables in a row, the second counts where none of the first is met
---     none_met_at             where the number is 0, no condition is met, by its number
---     met_at_lem, unmet_before    where the number is n, its condition is met, and none that stands before it
---     first_meets             a test that every number of the table meets
---     among_meets             a test that each number of a list meets
+--     met, passed, none_met     the first check decides, or the rest do; or there is none
+--     first_of_two              of two tables in a row, the second counts where none of the first is met
+--     none_met_at               where the number is 0, no condition is met, by its number
+--     met_at_lem, unmet_before  where the number is n, its condition is met, and none that stands before it
+--     first_meets               a test that every number of the table meets
+--     among_meets               a test that each number of a list meets
 -- Assumes nothing.
 use Prim.Native.Nat.{ℕ}
 use mathlib.Core.Path.{◌≡◌, refl, sym, ap, subst, ◌∙◌}

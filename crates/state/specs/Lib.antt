@@ -6,7 +6,7 @@
 -- table of refusals with the first number whose condition is met (Checks, with the claim NoneMetAt, which
 -- proofs/Checks.antt proves).
 -- Words of the toolchain's library in all of specs/:
---     getD l i d, set l i v        item i of a list, counted from 0, or d past its end; the list with v there
+--     get_or l i d, set l i v      item i of a list, counted from 0, or d past its end; the list with v there
 --     take n l, drop n l, l ++ m   the first n items, the others, and one list behind the other
 --     eqb, ltb, leb                whether two numbers are equal, the first is less, is less or equal
 --     cond c x y, T c              x if c is true and else y; that c is true

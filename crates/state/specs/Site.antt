@@ -1,11 +1,11 @@
 -- The state of a site (document 01, 'The state'): "A state has three sets of listed users, areas and objects, and five
 -- relations".
 --     Site                                        the state
---     Kind, limit, listed, with_listed             the three sets
---     Relation, first_kind, related, with_pair      the five relations
+--     Kind, limit, listed, with_listed            the three sets
+--     Relation, first_kind, related, with_pair    the five relations
 --     owns, defines, inside, imports, exports     the relations by the paper's words
 --     empty, founding                             nothing, and the founding state
---     site_of                                      a state from its parts
+--     site_of                                     a state from its parts
 --     counts                                      how many users, areas, objects and pairs there are
 --     Shaped                                      every set and relation has its number of cells
 --     Verdict                                     a refusal's number and a state

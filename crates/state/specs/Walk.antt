@@ -3,7 +3,7 @@
 --     some_member, each_member     of the numbers of a set
 --     some_pair, each_pair         of the pairs of a relation
 --     has_first, has_second        a pair with this first number, with this area
---     count                      how many
+--     count                        how many
 use Rattle.std.specs.Prelude.{ℕ, suc, ◌/◌, ◌%◌, Bool, true, false, ◌||◌, not, List, [], ◌∷◌, eqb}
 use Rattle.state.specs.Cells.{Members, Pairs, width}
 

@@ -26,12 +26,12 @@ struct Ending {
 }
 
 // The result of line k.
-fn put_line(out: &mut [u8], at: usize, k: usize, res: u8) -> usize
-    ensures place { result ≡ place_behind at (result_line k res) }
-    ensures buffer { out.new ≡ laid (result_line k res) at out.old }
+fn put_line(out: &mut [u8], at: usize, k: usize, refusal: u8) -> usize
+    ensures place { result ≡ place_behind at (result_line k refusal) }
+    ensures buffer { out.new ≡ laid (result_line k refusal) at out.old }
 {
     let behind_k = output::put_decimal(out, at, k);
-    let behind_result = output::put_spaced(out, behind_k, res as usize);
+    let behind_result = output::put_spaced(out, behind_k, refusal as usize);
     output::put(out, behind_result, 10)
 }
 
