@@ -86,7 +86,7 @@ check_refused() {
 is_unread() {
     local folder=${2#*::} errors
     errors=$(grep -E "^\./proofs/\+?${folder//:://}/[A-Za-z]+\.antt:[0-9]+:[0-9]+: error" "$1" || true)
-    [ -n "$errors" ] && ! grep -qvE 'has no field|is not in scope|has no `|was not admitted' <<<"$errors"
+    [ -n "$errors" ] && ! grep -qvE 'has no field|is not in scope|has no `' <<<"$errors"
 }
 
 # Tries the edits that name a function.
