@@ -1,13 +1,13 @@
 #!/usr/bin/env bash
-# The must-fail edits by crate and function, with what each gets wrong. An edit begins with a line '# WHAT: SENTENCE' for
-# each fault that it plants, and WHAT is one or more names with ', ' between: a public function of the edit's own crate
-# (machine::step, state::State::empty), or a claim of any crate (claim Demand3). Where the fault is planted in a private
-# function that those call, its name follows in parentheses: '# lines::first_line (extended): SENTENCE'. It fails where
-# a line is not so, where it names what is not there, and where fewer than two faults name a public function of a
-# library. With --check it counts the edits and their faults, and prints no table. With --refused it tries each edit that
-# names a function (tools/try.sh), several side by side, and reads what the prover says: each function that is named
-# must be refused, where an edit plants several faults none of theirs because of another, and none only because its
-# proof file names what the edit took away.
+# The must-fail edits by crate and function, with what each gets wrong. An edit begins with a line '# WHAT: SENTENCE'
+# for each fault that it plants, and WHAT is one or more names with ', ' between: a public function of the edit's own
+# crate (machine::step, state::State::empty), or a claim of any crate (claim Demand3). Where the fault is planted in a
+# private function that those call, its name follows in parentheses: '# lines::first_line (extended): SENTENCE'. It
+# fails where a line is not so, where it names what is not there, and where fewer than two faults name a public function
+# of a library. With --check it counts the edits and their faults, and prints no table. With --refused it tries each
+# edit that names a function (tools/try.sh), several side by side, and reads what the prover says: each function that is
+# named must be refused, where an edit plants several faults none of theirs because of another, and none only because
+# its proof file names what the edit took away.
 set -euo pipefail
 export LC_ALL=C
 cd "$(dirname "$0")/.."
@@ -77,7 +77,9 @@ check_refused() {
         said=$(said_of "$log" "$callee")
     done
     case $said in
-    'not proved'* | 'no proof'*) ! is_unread "$log" "$name" || fault "$edit: the proof of $name no longer fits, see $log" ;;
+    'not proved'* | 'no proof'*)
+        ! is_unread "$log" "$name" || fault "$edit: the proof of $name no longer fits, see $log"
+        ;;
     *) fault "$edit: $name is not refused: '$said' in $log" ;;
     esac
 }

@@ -1,7 +1,8 @@
 #!/usr/bin/env bash
-# What `rt ci` did by crate, off what it printed (a file, or standard input), each line with the second in front in which
-# it came: when the crate's proof was done, or that it is kept from an earlier run, and the must-fail edits refused;
-# beside them how many functions the crate has. Several crates run side by side, so no line tells the seconds of one.
+# What `rt ci` did by crate, off what it printed (a file, or standard input), each line with the second in front in
+# which it came: when the crate's proof was done, or that it is kept from an earlier run, and the must-fail edits
+# refused; beside them how many functions the crate has. Several crates run side by side, so no line tells the seconds
+# of one.
 set -euo pipefail
 [ $# -eq 0 ] || exec <"$1"
 cd "$(dirname "$0")/.."

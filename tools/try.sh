@@ -1,7 +1,7 @@
 #!/usr/bin/env bash
-# Tries must-fail edits: checks a copy of the crate with the edit in it, several side by side, and prints what the prover
-# says of each, above all a line 'fn NAME: ..' for each function. What is said is kept in target/edits/CRATE/LABEL.log,
-# and an edit is tried again only where something has changed that such a check reads.
+# Tries must-fail edits: checks a copy of the crate with the edit in it, several side by side, and prints what the
+# prover says of each, above all a line 'fn NAME: ..' for each function. What is said is kept in
+# target/edits/CRATE/LABEL.log, and an edit is tried again only where something has changed that such a check reads.
 set -euo pipefail
 export LC_ALL=C
 cd "$(dirname "$0")/.."
@@ -44,7 +44,11 @@ parts_of() {
 sum_of() {
     local folders
     mapfile -t folders < <(for it in $(with_below "${1%/*}"); do parts_of "$it"; done)
-    { rt version; cat "$(edit_of "$1")"; find "${folders[@]}" -type f -print0 | sort -z | xargs -0 sha256sum; } | sha256sum
+    {
+        rt version
+        cat "$(edit_of "$1")"
+        find "${folders[@]}" -type f -print0 | sort -z | xargs -0 sha256sum
+    } | sha256sum
 }
 
 is_tried() {
