@@ -7,9 +7,9 @@ ghost use Rattle.records.specs.Record.{record_size, number_for};
 ghost use Rattle.instructions.specs.Instructions.{four_bytes};
 ghost use Rattle.marks.specs.Marks.{lowest};
 ghost use Rattle.access.specs.Answer.{answer_number};
-ghost use Rattle.interface.specs.Interface.{founding_buffer, step_number, step_buffer, answer_of, access_number, file_number};
-ghost use Rattle.interface.specs.Interface.{call_of, recipe_answer, recipe_buffer, file_buffer, label_number, block_number};
-ghost use Rattle.interface.specs.Interface.{place_number, write_answer, write_buffer};
+ghost use Rattle.interface.specs.Interface.{founding_buffer, step_number, step_buffer, answer_of, access_number};
+ghost use Rattle.interface.specs.Interface.{call_of, recipe_answer, recipe_buffer, file_number, file_buffer};
+ghost use Rattle.interface.specs.Interface.{label_number, block_number, place_number, write_answer, write_buffer};
 ghost use Rattle.interface.specs.Interface.{explanation_code, explain_answer, explain_buffer, lost_code};
 ghost use Rattle.interface.specs.Interface.{explain_step_answer};
 
