@@ -13,6 +13,7 @@
 --     first_under, first_within            none before it meets it, and it is below n, or n
 --     none_at                              where none meets the test, each does not
 --     first_found, first_or_none           where some number meets the test, the first does, and else it is n
+--     found_is, found_none                 the same two of `found_below`
 --     some_same, first_same                of two tests that agree below n
 -- Assumes nothing.
 use Prim.Native.Nat.{ℕ, zero, suc, ◌+◌, ◌≤◌, ◌<◌}
@@ -26,7 +27,8 @@ use native.Mathlib.Decide.{ℕ_discrete, dec_lt}
 use borrow.Author.Tests.{eq-eqb, ne_eqb}
 use lib.Dec.{T, eqb}
 use Rattle.state.proofs.Bools.{or_left, or_right, or_cases, and_both, and_left, and_right, same_test, is_true, is_false, holds, fails, test}
-use Rattle.state.specs.Below.{each_below, count_below, some_below, first_from, first_below}
+use Rattle.std.proofs.Common.{Some as Found, None as NotFound}
+use Rattle.state.specs.Below.{each_below, count_below, some_below, first_from, first_below, found_below}
 
 module _ (f : ℕ → Bool) where
   pub each_none : each_below 0 f ≡ true
@@ -289,6 +291,19 @@ first_or_none f n = go (test (some_below n f))
         let found : first_below n f < n = (first_found f n t).0 in
         ne_eqb (first_below n f) n (λ e. omega arith) ∙ sym (ap not (is_true (some_below n f) t))
     go (inr none) = eq-eqb (first_below n f) n (first_none f n (none_at f n none)) ∙ sym (ap not none)
+
+-- ---- the first number that meets the test, if one does
+one_found : (n k r : ℕ) → r ≡ k → k < n → cond (eqb r n) NotFound (Found r) ≡ Found k
+one_found n k r e h = ap (λ (b : Bool). cond b NotFound (Found r)) (ne_eqb r n (λ m. omega arith)) ∙ ap Found e
+
+none_found : (n r : ℕ) → r ≡ n → cond (eqb r n) NotFound (Found r) ≡ NotFound
+none_found n r e = ap (λ (b : Bool). cond b NotFound (Found r)) (eq-eqb r n e)
+
+pub found_is : (f : ℕ → Bool) (n k : ℕ) → k < n → f k ≡ true → ((m : ℕ) → m < k → f m ≡ false) → found_below n f ≡ Found k
+found_is f n k h t none = one_found n k (first_below n f) (first_is f n k h t none) h
+
+pub found_none : (f : ℕ → Bool) (n : ℕ) → ((k : ℕ) → k < n → f k ≡ false) → found_below n f ≡ NotFound
+found_none f n none = none_found n (first_below n f) (first_none f n none)
 
 -- ---- two tests that agree below n
 pub some_same : (f g : ℕ → Bool) (n : ℕ) → ((k : ℕ) → k < n → f k ≡ g k) → some_below n f ≡ some_below n g

@@ -1,5 +1,5 @@
 -- Tests of the numbers below a bound: whether each meets one, how many do, whether some does, and which is the first.
-use Rattle.std.specs.Prelude.{ℕ, zero, suc, ◌+◌, Bool, true, false, ◌&&◌, ◌||◌, cond}
+use Rattle.std.specs.Prelude.{ℕ, zero, suc, ◌+◌, Bool, true, false, ◌&&◌, ◌||◌, cond, eqb, Option, Some, None}
 
 -- each number below n meets the test
 unfoldable pub each_below : ℕ → (ℕ → Bool) → Bool
@@ -24,3 +24,7 @@ first_from test (suc n) k = cond (test k) k (first_from test n (k + 1))
 -- the first number below n that meets the test, n if none does
 abbrev pub first_below : ℕ → (ℕ → Bool) → ℕ
 first_below n test = first_from test n 0
+
+-- the first number below n that meets the test, if one does
+abbrev pub found_below : ℕ → (ℕ → Bool) → Option ℕ
+found_below n test = cond (eqb (first_below n test) n) None (Some (first_below n test))

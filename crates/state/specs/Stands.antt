@@ -3,14 +3,21 @@
 -- file, and the functions that read and write its fields.
 --     site             the state of a record
 --     Fits             what the type of a record says in the code
+--     kind_of          the set that a `Kind` of the code stands for
+--     relation_of      the relation that a `Relation` of the code stands for
 -- Old and new are one to one (document 02, point 11): "Keep each relation as rows of bits, one row of 32 for each user,
 -- area or object, however it is kept now. Show that old and new records stand for the same sound states one to one".
 -- The old record is `Site`, a cell for each place, as the specification has it; the new one is `State`. The other
 -- direction, and that both get the same answers, is claimed in crate `refinement`.
 use Rattle.std.specs.Prelude.{ℕ, ◌≡◌, length}
 use Rattle.bits.specs.Rows.{Rows, cells_of, Fit}
-use Rattle.state.specs.Site.{Site, site_of, Shaped}
+use Rattle.state.specs.Site.{Site, site_of, Shaped, user, area, object, owner, definition, structure, import, export}
+use Rattle.state.specs.Site.{Kind as SetKind, Relation as PairRelation}
 use Rattle.state.specs.declared.State.{State}
+use Rattle.state.specs.declared.Kind.{Kind}
+use Rattle.state.specs.declared.Kind.TheVariants.{User, Area, Object}
+use Rattle.state.specs.declared.Relation.{Relation}
+use Rattle.state.specs.declared.Relation.TheVariants.{Owner, Definition, Structure, Import, Export}
 
 unfoldable pub site : State → Site
 site s =
@@ -42,3 +49,15 @@ NothingLost = (s t : State) → Fits s → Fits t → site s ≡ site t → s �
 -- A record has the cells of a state.
 abbrev pub SiteShaped : Type 0
 SiteShaped = (s : State) → Fits s → Shaped (site s)
+
+abbrev pub kind_of : Kind → SetKind
+kind_of User = user
+kind_of Area = area
+kind_of Object = object
+
+abbrev pub relation_of : Relation → PairRelation
+relation_of Owner = owner
+relation_of Definition = definition
+relation_of Structure = structure
+relation_of Import = import
+relation_of Export = export

@@ -5,6 +5,24 @@ ghost use Rattle.std.specs.Prelude.{◌≡◌};
 ghost use Rattle.state.specs.Site.{empty, founding};
 ghost use Rattle.state.specs.Stands.{site};
 
+// What can be listed.
+#[derive(Clone, Copy, Debug, PartialEq, Eq)]
+pub enum Kind {
+    User,
+    Area,
+    Object,
+}
+
+// The five relations.
+#[derive(Clone, Copy, Debug, PartialEq, Eq)]
+pub enum Relation {
+    Owner,
+    Definition,
+    Structure,
+    Import,
+    Export,
+}
+
 // Rows of 32 bits. In a set, number i is bit i % 32 of row i / 32. In a relation the pair (i, j) is bit j of row i.
 #[derive(Clone, Copy)]
 pub struct State {

@@ -1,0 +1,2 @@
+-- Laws has the claims.
+pub mod Laws
