@@ -10,6 +10,7 @@ use native.Mathlib.Nat.{le_antisymm}
 use borrow.Author.Tests.{ne_eqb}
 use lib.Dec.{T, eqb}
 use lib.ListN.{get_or, get_or-eq_default}
+use Rattle.std.proofs.Common.{Some, None}
 use Rattle.state.specs.Site.{area, object, limit, owner, definition, structure, import, export, related, with_pair}
 use Rattle.state.specs.Site.{Site}
 use Rattle.state.proofs.Bools.{or_left, or_right, or_cases, and_both, and_left, and_right, is_true, is_false, fails, holds}
@@ -17,14 +18,12 @@ use Rattle.state.proofs.Tabulate.{length_tabulate, get_or_tabulate}
 use Rattle.state.proofs.Laws.{related_other, related_outside, add_keeps_pairs, remove_adds_none}
 use Rattle.access.specs.Lending.{Lending, step, lending}
 use Rattle.access.specs.Chain.{Chain, here, onward, ObjectChain}
-use Rattle.access.specs.Answer.{longest, has, reached, answer_within, next_answer, answer, access, unreached}
+use Rattle.access.specs.Answer.{Answer, longest, has, reached, answer_within, next_answer, answer, access, unreached}
 use Rattle.access.specs.Answer.{answer_number, counts_within, least_counts, least_count}
 use Rattle.access.specs.Claims
 use Rattle.access.specs.Claims.{InSteps, RightWithin, Right, is_steps}
 use Rattle.access.specs.Laws
 use Rattle.access.specs.Laws.{Included}
-use Rattle.access.specs.declared.Answer.{Answer}
-use Rattle.access.specs.declared.Answer.TheVariants.{Steps, NoAccess}
 use Rattle.access.proofs.Reach.{chain_area, reached_area, chain_of, reached_by}
 use Rattle.access.proofs.Saturate
 
@@ -53,7 +52,7 @@ module _ (start : ℕ → Bool) (move : ℕ → ℕ → Bool) where
       last : (m : ℕ) → m ≤ suc n → Chain start move m a → m ≡ suc n
       last m h c = omega (arith, longer m c)
 
-  right_at_start : (a : ℕ) (b : Bool) → has (reached start move 0) a ≡ b → RightWithin start move 0 a (cond b (Steps 0) NoAccess)
+  right_at_start : (a : ℕ) (b : Bool) → has (reached start move 0) a ≡ b → RightWithin start move 0 a (cond b (Some 0) None)
   right_at_start a true e =
       let r = chain_of start move 0 a (holds e) in
       let first : r.0 ≡ 0 = omega (arith, r.1) in
@@ -61,9 +60,9 @@ module _ (start : ℕ → Bool) (move : ℕ → ℕ → Bool) where
   right_at_start a false e = none_within 0 a e
 
   right_next : (n a : ℕ) (x : Answer) (b : Bool) → has (reached start move (suc n)) a ≡ b → RightWithin start move n a x → RightWithin start move (suc n) a (next_answer x n b)
-  right_next n a (Steps k) b e r = record { shortest = r.shortest; short = omega (arith, r.short) }
-  right_next n a NoAccess true e r = first_reached n a r (holds e)
-  right_next n a NoAccess false e r = none_within (suc n) a e
+  right_next n a (Some k) b e r = record { shortest = r.shortest; short = omega (arith, r.short) }
+  right_next n a None true e r = first_reached n a r (holds e)
+  right_next n a None false e r = none_within (suc n) a e
 
 pub answer_within_is_right : Laws.AnswerWithinIsRight
 unfolding answer_within
@@ -77,10 +76,10 @@ answer_is_right l a = answer_within_is_right l.defined_in (step l) longest a
 
 -- two answers that are right up to n steps are one
 one_within : (start : ℕ → Bool) (move : ℕ → ℕ → Bool) (n a : ℕ) (x y : Answer) → RightWithin start move n a x → RightWithin start move n a y → x ≡ y
-one_within start move n a (Steps k) (Steps m) p q = ap Steps (le_antisymm (p.shortest.least m q.shortest.chain) (q.shortest.least k p.shortest.chain))
-one_within start move n a (Steps k) NoAccess p q = absurd (q k p.short p.shortest.chain)
-one_within start move n a NoAccess (Steps m) p q = absurd (p m q.short q.shortest.chain)
-one_within start move n a NoAccess NoAccess p q = refl
+one_within start move n a (Some k) (Some m) p q = ap Some (le_antisymm (p.shortest.least m q.shortest.chain) (q.shortest.least k p.shortest.chain))
+one_within start move n a (Some k) None p q = absurd (q k p.short p.shortest.chain)
+one_within start move n a None (Some m) p q = absurd (p m q.short q.shortest.chain)
+one_within start move n a None None p q = refl
 
 pub one_answer : Claims.OneAnswer
 one_answer l a = one_within l.defined_in (step l) longest a
@@ -89,7 +88,7 @@ pub no_access_exactly : Claims.NoAccessExactly
 unfolding longest
 no_access_exactly l a = (
   λ e n h. subst (Right l a) e (answer_is_right l a) n (omega (arith, h)),
-  λ none. one_answer l a (answer l a) NoAccess (answer_is_right l a) (λ n h. none n (omega (arith, h))),
+  λ none. one_answer l a (answer l a) None (answer_is_right l a) (λ n h. none n (omega (arith, h))),
 )
 
 -- ---- access
@@ -98,8 +97,8 @@ pub reached_is_steps : (start : ℕ → Bool) (move : ℕ → ℕ → Bool) (n a
 reached_is_steps start move n a = go (answer_within start move n a) (answer_within_is_right start move n a)
   where
     go : (x : Answer) → RightWithin start move n a x → has (reached start move n) a ≡ is_steps x
-    go (Steps k) r = is_true (has (reached start move n) a) (reached_by start move n r.shortest.chain r.short)
-    go NoAccess r = is_false (has (reached start move n) a) (λ t. let c = chain_of start move n a t in r c.0 c.1 c.2)
+    go (Some k) r = is_true (has (reached start move n) a) (reached_by start move n r.shortest.chain r.short)
+    go None r = is_false (has (reached start move n) a) (λ t. let c = chain_of start move n a t in r c.0 c.1 c.2)
 
 pub access_is_steps : Claims.AccessIsSteps
 unfolding access answer
@@ -130,9 +129,9 @@ unfolding least_counts counts_within
 counts_length l = length_tabulate _ (limit area)
 
 -- no chain leads past the areas
-pub outside : (l : Lending) (a : ℕ) → limit area ≤ a → answer l a ≡ NoAccess
+pub outside : (l : Lending) (a : ℕ) → limit area ≤ a → answer l a ≡ None
 outside l a h =
-    one_answer l a (answer l a) NoAccess (answer_is_right l a)
+    one_answer l a (answer l a) None (answer_is_right l a)
     (λ n short c. let inside = chain_area l.defined_in (step l) c in omega arith)
 
 count_inside : (l : Lending) (a : ℕ) → a < limit area → answer_number (answer l a) ≡ least_count l a
@@ -155,8 +154,8 @@ number_is_count l a = go (dec_lt a (limit area))
 -- no number of steps is that of 'no access'
 counted : (l : Lending) (a : ℕ) (x : Answer) → Right l a x → is_steps x ≡ not (eqb (answer_number x) unreached)
 unfolding longest
-counted l a (Steps k) r = sym (ap not (ne_eqb k unreached (λ e. omega (arith, r.short))))
-counted l a NoAccess r = refl
+counted l a (Some k) r = sym (ap not (ne_eqb k unreached (λ e. omega (arith, r.short))))
+counted l a None r = refl
 
 pub access_is_count : Laws.AccessIsCount
 access_is_count l a h =
@@ -184,7 +183,7 @@ chain_by start start' move move' f g (onward c h t) = onward (chain_by start sta
 
 pub definer_in_no_step : Claims.DefinerInNoStep
 definer_in_no_step l a h t =
-    one_answer l a (answer l a) (Steps 0) (answer_is_right l a)
+    one_answer l a (answer l a) (Some 0) (answer_is_right l a)
     (record { shortest = record { chain = here h t; least = λ m c. zero-le }; short = zero-le })
 
 -- where the chains are the same, so are the answers
@@ -195,9 +194,9 @@ same_within start start' move move' n a there back =
     (go (answer_within start move n a) (answer_within_is_right start move n a)) (answer_within_is_right start' move' n a)
   where
     go : (x : Answer) → RightWithin start move n a x → RightWithin start' move' n a x
-    go (Steps k) r =
+    go (Some k) r =
         record { shortest = record { chain = there k r.shortest.chain; least = λ m c. r.shortest.least m (back m c) }; short = r.short }
-    go NoAccess r = λ m h c. r m h (back m c)
+    go None r = λ m h c. r m h (back m c)
 
 step_included : (l k : Lending) → Included l k → (s r : ℕ) → s < limit area → r < limit area → T (step l s r) → T (step k s r)
 unfolding step

@@ -1,12 +1,10 @@
 -- The answer to the access question for an area and an object, as a definition that can be computed. That it is the
 -- least number of steps, or that no chain is within the limit, is claimed in Claims.antt.
-use Rattle.std.specs.Prelude.{ℕ, zero, suc, Bool, false, ◌||◌, cond, List, get_or}
+use Rattle.std.specs.Prelude.{ℕ, zero, suc, Bool, false, ◌||◌, cond, List, get_or, Option, Some, None}
 use Rattle.state.specs.Tabulate.{tabulate}
 use Rattle.state.specs.Walk.{some_from}
 use Rattle.state.specs.Site.{area, limit}
 use Rattle.access.specs.Lending.{Lending, step}
-use Rattle.access.specs.declared.Answer.{Answer}
-use Rattle.access.specs.declared.Answer.TheVariants.{Steps, NoAccess}
 
 -- "a table may be lent across at most 8 steps. Access now means a chain of 8 steps or fewer, everywhere: the question,
 -- imports, removals and files." (document 02, point 2)
@@ -34,14 +32,18 @@ unfoldable pub reached : (ℕ → Bool) → (ℕ → ℕ → Bool) → ℕ → A
 reached start move zero = tabulate (limit area) start
 reached start move (suc n) = spread move (reached start move n)
 
+-- "the number of steps in a shortest chain", or "no access"
+abbrev pub Answer : Type 0
+Answer = Option ℕ
+
 -- the answer up to n + 1 steps, from the answer up to n: it stays, or is n + 1 for an area that is reached only now
 abbrev pub next_answer : Answer → ℕ → Bool → Answer
-next_answer (Steps m) n reached_now = Steps m
-next_answer NoAccess n reached_now = cond reached_now (Steps (suc n)) NoAccess
+next_answer (Some m) n reached_now = Some m
+next_answer None n reached_now = cond reached_now (Some (suc n)) None
 
 -- the least number of steps, up to n, in which a chain reaches the area
 unfoldable pub answer_within : (ℕ → Bool) → (ℕ → ℕ → Bool) → ℕ → ℕ → Answer
-answer_within start move zero a = cond (has (reached start move zero) a) (Steps 0) NoAccess
+answer_within start move zero a = cond (has (reached start move zero) a) (Some 0) None
 answer_within start move (suc n) a = next_answer (answer_within start move n a) n (has (reached start move (suc n)) a)
 
 -- "the number of steps in a shortest chain, 0 for the defining area", or "no access"; "The step answer never passes 8."
@@ -61,8 +63,8 @@ unreached = 255
 
 -- the number that stands for an answer
 abbrev pub answer_number : Answer → ℕ
-answer_number (Steps n) = n
-answer_number NoAccess = unreached
+answer_number (Some n) = n
+answer_number None = unreached
 
 -- the numbers of all 32 areas, up to n steps
 unfoldable pub counts_within : (ℕ → Bool) → (ℕ → ℕ → Bool) → ℕ → List ℕ

@@ -2,10 +2,3 @@
 // proofs/ has why the claims hold. There is no function here: crate `search` has those, and a must-fail edit of one
 // does not prove the claims again.
 #![tactic(auto)]
-
-// The number of steps in a shortest chain, or no access.
-#[derive(Drop)]
-pub enum Answer {
-    Steps(u8),
-    NoAccess,
-}
