@@ -1,5 +1,5 @@
 // How many users, areas, objects and pairs a record has.
-#![tactic(auto)]
+#![tactic(auto, unfolding(state::specs::Stands::site))]
 
 ghost use Rattle.std.specs.Prelude.{◌≡◌, ◌≤◌, length};
 ghost use Rattle.bits.specs.Rows.{cells_of};
@@ -22,8 +22,8 @@ fn count(rows: &[u32]) -> usize
 }
 
 // How many users, areas, objects, owner, structure, import and export pairs are there?
-pub fn counts(s: State) -> [usize; 7]
-    ensures { result ≡ counts (site s) }
+pub fn counts(s: &State) -> [usize; 7]
+    ensures { result ≡ counts (site s.now) }
 {
     [
         count(&s.users),

@@ -1,9 +1,8 @@
 // What is read of a record, whatever it holds: what the checks of an instruction ask about, and single questions.
-#![tactic(auto)]
+#![tactic(auto, unfolding(state::specs::Stands::site))]
 
 ghost use Rattle.std.specs.Prelude.{◌≡◌, ◌&&◌};
-ghost use Rattle.bits.specs.Rows.{cells_of};
-ghost use Rattle.state.specs.Site.{user, area, object, owner, listed, cells, site_of};
+ghost use Rattle.state.specs.Site.{user, area, object, owner, listed, cells};
 ghost use Rattle.state.specs.Stands.{site};
 ghost use Rattle.state.specs.Walk.{has_first, has_second};
 ghost use Rattle.readings.specs.Readings.{seen_of, names_area};
@@ -35,65 +34,50 @@ pub struct Seen {
     pub exported: bool,
 }
 
-// What those checks read: all of it at once, whatever the instruction. The record is lent as its arrays, so that none
-// is copied.
-pub fn look<'a>(
-    users: &'a [u32; 1],
-    areas: &'a [u32; 1],
-    objects: &'a [u32; 2],
-    owners: &'a [u32; 32],
-    definitions: &'a [u32; 64],
-    structure: &'a [u32; 32],
-    imports: &'a [u32; 64],
-    exports: &'a [u32; 64],
-    u: u8,
-    a: u8,
-    b: u8,
-) -> Seen
-    ensures { result ≡ seen_of (site_of (cells_of users.now) (cells_of areas.now) (cells_of objects.now)
-        (cells_of owners.now) (cells_of definitions.now) (cells_of structure.now) (cells_of imports.now)
-        (cells_of exports.now)) u a b }
+// What those checks read: all of it at once, whatever the instruction.
+pub fn look(s: &State, u: u8, a: u8, b: u8) -> Seen
+    ensures { result ≡ seen_of (site s.now) u a b }
 {
     Seen {
-        activator: relations::is_member(users, u),
-        area: relations::is_member(areas, a),
-        user: relations::is_member(users, b),
-        outer: relations::is_member(areas, b),
-        object: relations::is_member(objects, b),
-        own: relations::is_pair(owners, u, a),
-        other: relations::is_pair(owners, u, b),
-        owned: relations::is_pair(owners, b, a),
-        defined: relations::is_pair(definitions, b, a),
-        inside: relations::is_pair(structure, a, b),
-        imported: relations::is_pair(imports, b, a),
-        exported: relations::is_pair(exports, b, a),
+        activator: relations::is_member(&s.users, u),
+        area: relations::is_member(&s.areas, a),
+        user: relations::is_member(&s.users, b),
+        outer: relations::is_member(&s.areas, b),
+        object: relations::is_member(&s.objects, b),
+        own: relations::is_pair(&s.owners, u, a),
+        other: relations::is_pair(&s.owners, u, b),
+        owned: relations::is_pair(&s.owners, b, a),
+        defined: relations::is_pair(&s.definitions, b, a),
+        inside: relations::is_pair(&s.structure, a, b),
+        imported: relations::is_pair(&s.imports, b, a),
+        exported: relations::is_pair(&s.exports, b, a),
     }
 }
 
 // Is the user listed, and does he own an area?
-pub fn is_owner(s: State, u: u8) -> bool
-    ensures { result ≡ (listed (site s) user u && has_first (cells (site s) owner) u) }
+pub fn is_owner(s: &State, u: u8) -> bool
+    ensures { result ≡ (listed (site s.now) user u && has_first (cells (site s.now) owner) u) }
 {
     relations::is_member(&s.users, u) & relations::in_row(&s.owners, u)
 }
 
 // Are area a and object b listed?
-pub fn are_listed(s: State, a: u8, b: u8) -> bool
-    ensures { result ≡ (listed (site s) area a && listed (site s) object b) }
+pub fn are_listed(s: &State, a: u8, b: u8) -> bool
+    ensures { result ≡ (listed (site s.now) area a && listed (site s.now) object b) }
 {
     relations::is_member(&s.areas, a) & relations::is_member(&s.objects, b)
 }
 
 // Has the area an owner?
-pub fn is_owned(s: State, a: u8) -> bool
-    ensures { result ≡ has_second (cells (site s) owner) a }
+pub fn is_owned(s: &State, a: u8) -> bool
+    ensures { result ≡ has_second (cells (site s.now) owner) a }
 {
     relations::in_column(&s.owners, a)
 }
 
 // Is there a pair that names the area?
-pub fn names_area(s: State, number: u8) -> bool
-    ensures { result ≡ names_area (site s) number }
+pub fn names_area(s: &State, number: u8) -> bool
+    ensures { result ≡ names_area (site s.now) number }
 {
     relations::in_column(&s.owners, number)
         | relations::in_column(&s.definitions, number)
