@@ -12,15 +12,14 @@ use native.Mathlib.Decide.{dec_lt}
 use borrow.Author.Tests.{eqb-true}
 use lib.Dec.{T, T_not, not_T}
 use lib.Seq.{ext_get_or}
+use Rattle.std.proofs.Common.{Some, None}
 use Rattle.bits.specs.Bits.{bit, places, word, union, difference, is_empty, is_subset}
 use Rattle.bits.proofs.Laws.{bit_zero, bit_past, word_bit, word_fits, word_is, same_word, union_bit, difference_bit, difference_fits, subset_decided}
 use Rattle.state.specs.Below.{some_below}
 use Rattle.state.proofs.Below.{some_by, some_at}
 use Rattle.state.proofs.Bools.{and_both, and_left, and_right, same_test, is_true, is_false, holds, fails, test}
-use Rattle.access.specs.Answer.{longest, Areas, has, reached, answer_within, next_answer}
+use Rattle.access.specs.Answer.{Answer, longest, Areas, has, reached, answer_within, next_answer}
 use Rattle.access.specs.Claims.{is_steps}
-use Rattle.access.specs.declared.Answer.{Answer}
-use Rattle.access.specs.declared.Answer.TheVariants.{Steps, NoAccess}
 use Rattle.access.proofs.Reach.{chain_of, reached_by, reached_area, reached_more, reached_next, reached_back, has_tabulate}
 use Rattle.access.proofs.Saturate.{reached_length, Stable, stable_from}
 use Rattle.access.proofs.Laws.{reached_is_steps}
@@ -144,19 +143,19 @@ module _ (start : ℕ → Bool) (move : ℕ → ℕ → Bool) where
       (λ k l t. subst T (sym (reached_bit longest k)) (later n longest k h (subst T (reached_bit n k) ((subset_decided wanted (reached_row n)).0 (holds e) k l t)))))
 
   -- ---- the answer for one area
-  steps_stay : (n m a k : ℕ) → answer_within start move n a ≡ Steps k → answer_within start move (n + m) a ≡ Steps k
+  steps_stay : (n m a k : ℕ) → answer_within start move n a ≡ Some k → answer_within start move (n + m) a ≡ Some k
   unfolding answer_within
   steps_stay n zero a k e = ap (λ (j : ℕ). answer_within start move j a) (add-zero n) ∙ e
   steps_stay n (suc m) a k e =
       ap (λ (j : ℕ). answer_within start move j a) (add-suc n m)
       ∙ ap (λ (x : Answer). next_answer x (n + m) (near (suc (n + m)) a)) (steps_stay n m a k e)
 
-  unanswered : (n a : ℕ) → near n a ≡ false → answer_within start move n a ≡ NoAccess
+  unanswered : (n a : ℕ) → near n a ≡ false → answer_within start move n a ≡ None
   unanswered n a e = go (answer_within start move n a) (sym (reached_is_steps start move n a) ∙ e)
     where
-      go : (x : Answer) → is_steps x ≡ false → x ≡ NoAccess
-      go (Steps k) q = absurd (fails q tt)
-      go NoAccess q = refl
+      go : (x : Answer) → is_steps x ≡ false → x ≡ None
+      go (Some k) q = absurd (fails q tt)
+      go None q = refl
 
   -- whether each wanted area is reached, found in three places of a search: all are by now, no area is new, the last round is over
   pub within_found : (n wanted all : ℕ) (r : Bool) → n ≤ longest → all ≡ reached_row n → r ≡ is_subset wanted all → r ≡ true → true ≡ is_subset wanted (reachable start move)
@@ -170,27 +169,27 @@ module _ (start : ℕ → Bool) (move : ℕ → ℕ → Bool) where
   pub within_last : (n wanted all : ℕ) (r : Bool) → n ≡ longest → all ≡ reached_row n → r ≡ is_subset wanted all → r ≡ is_subset wanted (reachable start move)
   within_last n wanted all r h e p = p ∙ ap (is_subset wanted) (e ∙ last_reached n h)
 
-  pub found_first : (a : ℕ) → bit (reached_row 0) a ≡ true → Steps 0 ≡ answer_within start move longest a
+  pub found_first : (a : ℕ) → bit (reached_row 0) a ≡ true → Some 0 ≡ answer_within start move longest a
   unfolding longest answer_within
   found_first a t =
-      let first : answer_within start move 0 a ≡ Steps 0 = ap (λ (b : Bool). cond b (Steps 0) NoAccess) (sym (reached_bit 0 a) ∙ t) in
+      let first : answer_within start move 0 a ≡ Some 0 = ap (λ (b : Bool). cond b (Some 0) None) (sym (reached_bit 0 a) ∙ t) in
       sym (steps_stay 0 longest a 0 first)
 
   pub found_now : (n a : ℕ) → n < longest → bit (reached_row n) a ≡ false → bit (layer_row (suc n)) a ≡ true
-      → Steps (n + 1) ≡ answer_within start move longest a
+      → Some (n + 1) ≡ answer_within start move longest a
   unfolding answer_within layer_row
   found_now n a hn far t =
       let h : a < places = inside (dec_lt a places) in
       let here : near (suc n) a ≡ true = is_true _ (layer_reached (suc n) a h (holds t)) in
-      let first : answer_within start move (suc n) a ≡ Steps (suc n) = ap₂ (λ (x : Answer) (b : Bool). next_answer x n b) (unanswered n a (sym (reached_bit n a) ∙ far)) here in
+      let first : answer_within start move (suc n) a ≡ Some (suc n) = ap₂ (λ (x : Answer) (b : Bool). next_answer x n b) (unanswered n a (sym (reached_bit n a) ∙ far)) here in
       let more : suc n + (longest - suc n) ≡ longest = omega arith in
-      ap Steps (add-one n) ∙ sym (sym (ap (λ (j : ℕ). answer_within start move j a) more) ∙ steps_stay (suc n) (longest - suc n) a (suc n) first)
+      ap Some (add-one n) ∙ sym (sym (ap (λ (j : ℕ). answer_within start move j a) more) ∙ steps_stay (suc n) (longest - suc n) a (suc n) first)
     where
       inside : Dec (a < places) → a < places
       inside (yes h) = h
       inside (no h) = absurd (fails (bit_past places (layer_row (suc n)) a (difference_fits _ _) (omega arith)) (holds t))
 
-  pub never : (n a : ℕ) → bit (reached_row n) a ≡ false → reached_row n ≡ reachable start move → NoAccess ≡ answer_within start move longest a
+  pub never : (n a : ℕ) → bit (reached_row n) a ≡ false → reached_row n ≡ reachable start move → None ≡ answer_within start move longest a
   unfolding reachable
   never n a far e = sym (unanswered longest a (sym (reached_bit longest a) ∙ ap (λ (r : ℕ). bit r a) (sym e) ∙ far))
 

@@ -1,10 +1,21 @@
 -- Not needed to believe a claim. What the functions of the search promise, in terms of the rows that they work on. A
 -- set of areas is a row of bits.
-use Rattle.std.specs.Prelude.{ℕ, Bool, ◌&&◌, ◌||◌}
+use Rattle.std.specs.Prelude.{ℕ, Bool, ◌&&◌, ◌||◌, get_or}
 use Rattle.bits.specs.Bits.{bit, places, word}
 use Rattle.state.specs.Below.{some_below}
 use Rattle.state.specs.Cells.{Pairs, pair}
+use Rattle.state.specs.declared.State.{State}
 use Rattle.access.specs.Answer.{longest, has, reached}
+use Rattle.search.specs.declared.Object.{Object}
+
+-- the rows of an object
+abbrev pub object_in : State → ℕ → Object
+object_in s o =
+    record {
+      defined = get_or s.definitions o 0;
+      imported = get_or s.imports o 0;
+      exported = get_or s.exports o 0;
+    }
 
 -- one step from s to r, where the structure is at hand in both directions: `transposed` has the pair (s, r) where the
 -- structure has (r, s)

@@ -4,16 +4,36 @@
 ghost use Rattle.std.specs.Prelude.{◌≡◌};
 ghost use Rattle.bits.specs.Bits.{bit, is_subset};
 ghost use Rattle.bits.specs.Rows.{cells_of};
+ghost use Rattle.state.specs.Stands.{site};
 ghost use Rattle.relations.specs.Relations.{transpose};
-ghost use Rattle.access.specs.Lending.{lending_of};
+ghost use Rattle.access.specs.Lending.{lending};
 ghost use Rattle.access.specs.Answer.{longest, answer_within, answer, answer_number, least_count};
 ghost use Rattle.access.specs.Claims.{Right};
-ghost use Rattle.search.specs.Rounds.{move_by, next_to, reachable};
+ghost use Rattle.search.specs.Rounds.{object_in, move_by, next_to, reachable};
 
-use access::Answer;
+use state::State;
 
 // How many steps are looked at: a longer chain gives no access.
 pub const LONGEST: u8 = 8;
+
+// The rows of one object: the areas that define it, import it and export it.
+#[derive(Clone, Copy)]
+pub struct Object {
+    pub defined: u32,
+    pub imported: u32,
+    pub exported: u32,
+}
+
+// The rows of an object in a state. A number past the objects has no pair.
+pub fn object_of(s: &State, object: u8) -> Object
+    ensures { result ≡ object_in s.now object }
+{
+    Object {
+        defined: relations::row_of(&s.definitions, object),
+        imported: relations::row_of(&s.imports, object),
+        exported: relations::row_of(&s.exports, object),
+    }
+}
 
 // The areas that the object can move to in one step from an area of the layer: out of those that export it, and into
 // those that import it.
@@ -42,26 +62,24 @@ pub fn next_alone(layer: u32, structure: &[u32; 32], imported: u32, exported: u3
     bits::union(outward, inward)
 }
 
-// Does the object reach each area that is wanted? It is given by its rows: the areas that define, import and export it;
-// and the structure with its transpose, which `relations::transposed` makes once for many objects.
+// Does the object reach each area that is wanted? The structure comes with its transpose, which `relations::transposed`
+// makes once for many objects.
 pub fn reaches<'a>(
-    defined: u32,
+    o: Object,
     structure: &'a [u32; 32],
     transposed: &'a [u32; 32],
-    imported: u32,
-    exported: u32,
     wanted: u32,
 ) -> bool
-    ensures { result ≡ is_subset wanted (reachable (bit defined) (move_by (cells_of structure.now) (cells_of
-        transposed.now) (bit imported) (bit exported))) }
+    ensures { result ≡ is_subset wanted (reachable (bit o.defined) (move_by (cells_of structure.now) (cells_of
+        transposed.now) (bit o.imported) (bit o.exported))) }
 {
-    let mut layer = defined;
-    let mut reached = defined;
+    let mut layer = o.defined;
+    let mut reached = o.defined;
     for n in 0..LONGEST {
         if bits::is_subset(wanted, reached) {
             return true;
         }
-        let near = next(layer, structure, transposed, imported, exported);
+        let near = next(layer, structure, transposed, o.imported, o.exported);
         let new = bits::difference(near, reached);
         if bits::is_empty(new) {
             return false;
@@ -74,23 +92,17 @@ pub fn reaches<'a>(
 }
 
 // The same, for an object by itself.
-pub fn reaches_alone(
-    defined: u32,
-    structure: &[u32; 32],
-    imported: u32,
-    exported: u32,
-    wanted: u32,
-) -> bool
-    ensures { result ≡ is_subset wanted (reachable (bit defined) (move_by (cells_of structure.now) (transpose
-        (cells_of structure.now)) (bit imported) (bit exported))) }
+pub fn reaches_alone(o: Object, structure: &[u32; 32], wanted: u32) -> bool
+    ensures { result ≡ is_subset wanted (reachable (bit o.defined) (move_by (cells_of structure.now) (transpose
+        (cells_of structure.now)) (bit o.imported) (bit o.exported))) }
 {
-    let mut layer = defined;
-    let mut reached = defined;
+    let mut layer = o.defined;
+    let mut reached = o.defined;
     for n in 0..LONGEST {
         if bits::is_subset(wanted, reached) {
             return true;
         }
-        let near = next_alone(layer, structure, imported, exported);
+        let near = next_alone(layer, structure, o.imported, o.exported);
         let new = bits::difference(near, reached);
         if bits::is_empty(new) {
             return false;
@@ -102,57 +114,38 @@ pub fn reaches_alone(
     bits::is_subset(wanted, reached)
 }
 
-// The number of steps in a shortest chain of the object to the area, or no access. The object is given by its rows,
-// as above.
-fn least_steps(
-    defined: u32,
-    structure: &[u32; 32],
-    imported: u32,
-    exported: u32,
-    area: u8,
-) -> Answer
-    ensures { result ≡ answer_within (bit defined) (move_by (cells_of structure.now) (transpose
-        (cells_of structure.now)) (bit imported) (bit exported)) longest area }
+// The number of steps in a shortest chain of the object to the area, if there is one.
+fn least_steps(o: Object, structure: &[u32; 32], area: u8) -> Option<u8>
+    ensures { result ≡ answer_within (bit o.defined) (move_by (cells_of structure.now) (transpose
+        (cells_of structure.now)) (bit o.imported) (bit o.exported)) longest area }
 {
-    if bits::is_set(defined, area) {
-        return Answer::Steps(0);
+    if bits::is_set(o.defined, area) {
+        return Some(0);
     }
-    let mut layer = defined;
-    let mut reached = defined;
+    let mut layer = o.defined;
+    let mut reached = o.defined;
     for n in 0..LONGEST {
-        let near = next_alone(layer, structure, imported, exported);
+        let near = next_alone(layer, structure, o.imported, o.exported);
         let new = bits::difference(near, reached);
         if bits::is_set(new, area) {
-            return Answer::Steps(n + 1);
+            return Some(n + 1);
         }
         if bits::is_empty(new) {
-            return Answer::NoAccess;
+            return None;
         }
         let all = bits::union(reached, new);
         reached = all;
         layer = new;
     }
-    Answer::NoAccess
+    None
 }
 
-// The answer for one area and object, by the relations that access rests on. A number past the areas has no access.
-pub fn steps<'a>(
-    definitions: &'a [u32; 64],
-    structure: &'a [u32; 32],
-    imports: &'a [u32; 64],
-    exports: &'a [u32; 64],
-    area: u8,
-    object: u8,
-) -> Answer
-    ensures equation { result ≡ answer (lending_of (cells_of definitions.now) (cells_of structure.now)
-        (cells_of imports.now) (cells_of exports.now) object) area }
-    ensures meaning { Right (lending_of (cells_of definitions.now) (cells_of structure.now)
-        (cells_of imports.now) (cells_of exports.now) object) area result }
-    ensures number { answer_number result ≡ least_count (lending_of (cells_of definitions.now)
-        (cells_of structure.now) (cells_of imports.now) (cells_of exports.now) object) area }
+// The answer for one area and object, in a state: the number of steps, or none for no access. A number past the areas
+// has no access.
+pub fn steps(s: &State, area: u8, object: u8) -> Option<u8>
+    ensures equation { result ≡ answer (lending (site s.now) object) area }
+    ensures meaning { Right (lending (site s.now) object) area result }
+    ensures number { answer_number result ≡ least_count (lending (site s.now) object) area }
 {
-    let defined = relations::row_of(definitions, object);
-    let imported = relations::row_of(imports, object);
-    let exported = relations::row_of(exports, object);
-    least_steps(defined, structure, imported, exported, area)
+    least_steps(object_of(s, object), &s.structure, area)
 }

@@ -1,7 +1,7 @@
 -- `search::least_steps` meets its contract. The loop's invariant: `reached` has the areas within n steps, `layer` those that are reached first in n,
 -- and the area is not reached.
 -- Assumes nothing.
-use Prim.Native.Nat.{ℕ, suc, ◌-◌, ◌≤◌, zero-le}
+use Prim.Native.Nat.{ℕ, suc, ◌≤◌, zero-le}
 use mathlib.Core.Path.{◌≡◌, sym, ap, ◌∙◌}
 use mathlib.Core.Bool.{Bool, true, false}
 use native.Mathlib.Omega.{arith}
@@ -11,7 +11,7 @@ use Rattle.bits.specs.Bits.{bit, is_empty}
 use Rattle.bits.specs.Rows.{cells_of}
 use Rattle.relations.specs.Relations.{transpose}
 use Rattle.access.specs.Answer.{longest, answer_within}
-use Rattle.access.specs.declared.Answer.TheVariants.{NoAccess}
+use Rattle.std.proofs.Common.{None}
 use Rattle.search.specs.Rounds.{move_by}
 use Rattle.search.proofs.Layers.{reached_row, layer_row, first_row, round, reach, all_reached, last_reached, found_first, found_now, never, not_more}
 use Rattle.search.proofs.least_steps.Goals as goal
@@ -29,26 +29,26 @@ module _ (start : ℕ → Bool) (move : ℕ → ℕ → Bool) where
 
   -- no new area: the search has ended
   ended : (n a new : ℕ) → n ≤ longest → bit (reached_row start move n) a ≡ false → new ≡ layer_row start move (suc n) → is_empty new ≡ true
-      → NoAccess ≡ answer_within start move longest a
+      → None ≡ answer_within start move longest a
   ended n a new h far la none = never start move n a far (all_reached start move n h (sym la ∙ eqb-true new 0 none))
 
-  last : (n a : ℕ) → n ≡ longest → bit (reached_row start move n) a ≡ false → NoAccess ≡ answer_within start move longest a
+  last : (n a : ℕ) → n ≡ longest → bit (reached_row start move n) a ≡ false → None ≡ answer_within start move longest a
   last n a h far = never start move n a far (last_reached start move n h)
 
 pub returns-then-is_set : goal.returns-then-is_set
 returns-then-is_set c =
-    found_first _ _ _ (first_bit _ _ _ _ _ (first_row _ _ c.ranges.defined.fits) c.is_set.ensures c.if-is_set.true)
+    found_first _ _ _ (first_bit _ _ _ _ _ (first_row _ _ c.well_formed.0.1.1.0.1) c.is_set.ensures c.if-is_set.true)
 
 pub loop-n-init : goal.loop-n-init
 unfolding layer_row
 loop-n-init c =
-    let first = first_row _ _ c.ranges.defined.fits in
+    let first = first_row _ _ c.well_formed.0.1.1.0.1 in
     (zero-le, first, first, first_bit _ _ _ _ _ first c.is_set.ensures c.if-is_set.false)
 
 -- after `difference` the new areas are the next layer
 new_layer : (c : After-difference-new)
     → let a = c.args in
-    c.difference-new.result ≡ layer_row (bit a.defined) (move_by (cells_of a.structure.now) (transpose (cells_of a.structure.now)) (bit a.imported) (bit a.exported)) (suc c.loop-n.n)
+    c.difference-new.result ≡ layer_row (bit a.o.defined) (move_by (cells_of a.structure.now) (transpose (cells_of a.structure.now)) (bit a.o.imported) (bit a.o.exported)) (suc c.loop-n.n)
 new_layer c =
     let inv = c.loop-n.invariant in
     round _ _ _ _ _ _ _ inv.1 inv.2 c.next_alone-near.ensures c.difference-new.ensures

@@ -11,8 +11,8 @@ use Rattle.search.proofs.reaches.Given as goal
 
 abbrev pub invariant-loop-n : goal.invariant-loop-n
 invariant-loop-n l =
-    let move = move_by (cells_of l.structure) (cells_of l.transposed) (bit l.imported) (bit l.exported) in
-    (l.n ≤ longest) × (l.layer ≡ layer_row (bit l.defined) move l.n) × (l.reached ≡ reached_row (bit l.defined) move l.n)
+    let move = move_by (cells_of l.structure) (cells_of l.transposed) (bit l.o.imported) (bit l.o.exported) in
+    (l.n ≤ longest) × (l.layer ≡ layer_row (bit l.o.defined) move l.n) × (l.reached ≡ reached_row (bit l.o.defined) move l.n)
 
 abbrev pub decreases-loop-n : goal.decreases-loop-n
 decreases-loop-n l = longest - l.n

@@ -1,11 +1,10 @@
 -- `search::reaches_alone` meets its contract. The loop's invariant: `reached` has the areas within n steps, and `layer` those that are reached first in n.
 -- Assumes nothing.
-use Prim.Native.Nat.{suc, ◌-◌, zero-le}
+use Prim.Native.Nat.{suc, zero-le}
 use mathlib.Core.Path.{◌≡◌, sym, ap, ◌∙◌}
-use mathlib.Core.Bool.{true}
 use native.Mathlib.Omega.{arith}
 use native.Mathlib.Numerals.{add-one}
-use Rattle.bits.specs.Bits.{bit, is_empty, is_subset}
+use Rattle.bits.specs.Bits.{bit}
 use Rattle.bits.specs.Rows.{cells_of}
 use Rattle.relations.specs.Relations.{transpose}
 use Rattle.access.specs.Answer.{longest}
@@ -17,7 +16,7 @@ use Rattle.search.proofs.reaches_alone.Goals.{After-difference-new}
 pub loop-n-init : goal.loop-n-init
 unfolding layer_row
 loop-n-init c =
-    let first = first_row _ _ c.ranges.defined.fits in
+    let first = first_row _ _ c.well_formed.0.1.1.0.1 in
     (zero-le, first, first)
 
 pub returns-then-is_subset : goal.returns-then-is_subset
@@ -28,7 +27,7 @@ returns-then-is_subset c =
 -- after `difference` the new areas are the next layer
 new_layer : (c : After-difference-new)
     → let a = c.args in
-    c.difference-new.result ≡ layer_row (bit a.defined) (move_by (cells_of a.structure.now) (transpose (cells_of a.structure.now)) (bit a.imported) (bit a.exported)) (suc c.loop-n.n)
+    c.difference-new.result ≡ layer_row (bit a.o.defined) (move_by (cells_of a.structure.now) (transpose (cells_of a.structure.now)) (bit a.o.imported) (bit a.o.exported)) (suc c.loop-n.n)
 new_layer c =
     let inv = c.loop-n.invariant in
     round _ _ _ _ _ _ _ inv.1 inv.2 c.next_alone-near.ensures c.difference-new.ensures

@@ -12,8 +12,8 @@ use Rattle.search.proofs.reaches_alone.Given as goal
 
 abbrev pub invariant-loop-n : goal.invariant-loop-n
 invariant-loop-n l =
-    let move = move_by (cells_of l.structure) (transpose (cells_of l.structure)) (bit l.imported) (bit l.exported) in
-    (l.n ≤ longest) × (l.layer ≡ layer_row (bit l.defined) move l.n) × (l.reached ≡ reached_row (bit l.defined) move l.n)
+    let move = move_by (cells_of l.structure) (transpose (cells_of l.structure)) (bit l.o.imported) (bit l.o.exported) in
+    (l.n ≤ longest) × (l.layer ≡ layer_row (bit l.o.defined) move l.n) × (l.reached ≡ reached_row (bit l.o.defined) move l.n)
 
 abbrev pub decreases-loop-n : goal.decreases-loop-n
 decreases-loop-n l = longest - l.n
