@@ -1,12 +1,12 @@
 -- The format of a site file as data (document 01, 'The site file'): the header's fields, and one row for each table.
 use Rattle.std.specs.Prelude.{ℕ, ◌+◌, ◌*◌, ◌<◌, Bool, true, ◌&&◌, List, [], ◌∷◌, get_or, take, drop}
+use Rattle.state.specs.Stands.{relation_of}
 use Rattle.state.specs.Site.{Relation, owner, definition, structure, import, export, limit, first_kind}
 use Rattle.pair_tables.specs.Pairs.{pair_size, pairs_fit, pairs_ascend}
 use Rattle.label_tables.specs.Labels.{label_size, labels_fit, labels_ascend}
 use Rattle.site_format.specs.declared.Layout as code
 use Rattle.site_format.specs.declared.Table.{Table}
-use Rattle.site_format.specs.declared.Table.TheVariants.{Owners, Definitions, Structure}
-use Rattle.site_format.specs.declared.Table.TheVariants.{Imports, Exports, Labels}
+use Rattle.site_format.specs.declared.Table.TheVariants.{Pairs, Labels}
 
 -- each number of the list is that of a byte
 abbrev pub AreBytes : List ℕ → Type 0
@@ -65,11 +65,7 @@ each_table (c ∷ rest) test = test c && each_table rest test
 -- ---- the code's tables and rows
 -- what each table holds
 abbrev pub held : Table → Content
-held Owners = pairs_of owner
-held Definitions = pairs_of definition
-held Structure = pairs_of structure
-held Imports = pairs_of import
-held Exports = pairs_of export
+held (Pairs r) = pairs_of (relation_of r)
 held Labels = labels
 
 -- the numbers of a row

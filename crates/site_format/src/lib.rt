@@ -2,9 +2,9 @@
 #![tactic(auto)]
 
 ghost use Rattle.std.specs.Prelude.{◌≡◌, min, map, length, get_or, take, drop};
-ghost use Rattle.state.specs.Site.{owner, definition, structure, import, export};
-ghost use Rattle.site_format.specs.Format.{field, pairs_of, labels, layout_of, tables, held, as_layout, part};
-ghost use Rattle.site_format.specs.Format.{behind};
+ghost use Rattle.site_format.specs.Format.{field, layout_of, tables, held, as_layout, part, behind};
+
+use state::Relation;
 
 // How many bytes the header has.
 pub const HEADER_SIZE: usize = 28;
@@ -21,24 +21,14 @@ pub const LENGTH_AT: u8 = 2;
 fn byte_at(file: &[u8], at: usize) -> u8
     ensures { result ≡ get_or file.now at 0 }
 {
-    if file.len() <= at {
-        return 0;
-    }
-    file[at]
+    file.get(at).copied().unwrap_or(0)
 }
 
 // The header's field of two bytes, low byte first.
 pub fn field_at(file: &[u8], at: u8) -> u16
     ensures { result ≡ field file.now at }
 {
-    byte_at(file, at as usize) as u16 + 256 * byte_at(file, at as usize + 1) as u16
-}
-
-// The lower of two numbers.
-fn lower(a: usize, b: usize) -> usize
-    ensures { result ≡ min a b }
-{
-    if a < b { a } else { b }
+    u16::from_le_bytes([byte_at(file, at as usize), byte_at(file, at as usize + 1)])
 }
 
 // The bytes from a place on, as many as asked for or as there are.
@@ -46,33 +36,29 @@ pub fn part_from(file: &[u8], from: usize, len: usize) -> &[u8]
     ensures bytes { result.now ≡ take len (drop from file.now) }
     ensures place { result.ref_ptr ≡ behind file.entry.ref_ptr (min from (length file.now)) }
 {
-    let start = lower(from, file.len());
-    let count = lower(len, file.len() - start);
+    let start = from.min(file.len());
+    let count = len.min(file.len() - start);
     &file[start..start + count]
 }
 
-// The six tables, in their order in the file.
-#[derive(Clone, Copy)]
+// The six tables: one for the pairs of each relation, and that of the labels.
+#[derive(Clone, Copy, Debug, PartialEq, Eq)]
 pub enum Table {
-    Owners,
-    Definitions,
-    Structure,
-    Imports,
-    Exports,
+    Pairs(Relation),
     Labels,
 }
 
 impl Table {
-    // Each table once, in that order.
+    // Each table once, in their order in the file.
     pub fn all() -> [Table; 6]
         ensures { map held result ≡ tables }
     {
         [
-            Table::Owners,
-            Table::Definitions,
-            Table::Structure,
-            Table::Imports,
-            Table::Exports,
+            Table::Pairs(Relation::Owner),
+            Table::Pairs(Relation::Definition),
+            Table::Pairs(Relation::Structure),
+            Table::Pairs(Relation::Import),
+            Table::Pairs(Relation::Export),
             Table::Labels,
         ]
     }
@@ -80,7 +66,7 @@ impl Table {
 
 // The numbers of a table: the size of an element, the most of them that there may be, and where in the header their
 // count and the table's offset are stated.
-#[derive(Drop)]
+#[derive(Clone, Copy)]
 pub struct Layout {
     pub size: u16,
     pub most: u16,
@@ -136,58 +122,21 @@ pub fn layout_of(table: Table) -> Layout
     ensures { as_layout result ≡ layout_of (held table) }
 {
     match table {
-        Table::Owners => OWNERS,
-        Table::Definitions => DEFINITIONS,
-        Table::Structure => STRUCTURE,
-        Table::Imports => IMPORTS,
-        Table::Exports => EXPORTS,
+        Table::Pairs(Relation::Owner) => OWNERS,
+        Table::Pairs(Relation::Definition) => DEFINITIONS,
+        Table::Pairs(Relation::Structure) => STRUCTURE,
+        Table::Pairs(Relation::Import) => IMPORTS,
+        Table::Pairs(Relation::Export) => EXPORTS,
         Table::Labels => LABELS,
     }
 }
 
 // The bytes of a table: as many elements as its count says, from its offset on.
-fn part(file: &[u8], table: Table) -> &[u8]
+pub fn part(file: &[u8], table: Table) -> &[u8]
     ensures { result.now ≡ part file.now (held table) }
 {
     let layout = layout_of(table);
     let from = field_at(file, layout.offset_at) as usize;
     let len = field_at(file, layout.count_at) as usize * layout.size as usize;
     part_from(file, from, len)
-}
-
-// The six tables.
-pub fn owners(file: &[u8]) -> &[u8]
-    ensures { result.now ≡ part file.now (pairs_of owner) }
-{
-    part(file, Table::Owners)
-}
-
-pub fn definitions(file: &[u8]) -> &[u8]
-    ensures { result.now ≡ part file.now (pairs_of definition) }
-{
-    part(file, Table::Definitions)
-}
-
-pub fn structure(file: &[u8]) -> &[u8]
-    ensures { result.now ≡ part file.now (pairs_of structure) }
-{
-    part(file, Table::Structure)
-}
-
-pub fn imports(file: &[u8]) -> &[u8]
-    ensures { result.now ≡ part file.now (pairs_of import) }
-{
-    part(file, Table::Imports)
-}
-
-pub fn exports(file: &[u8]) -> &[u8]
-    ensures { result.now ≡ part file.now (pairs_of export) }
-{
-    part(file, Table::Exports)
-}
-
-pub fn labels(file: &[u8]) -> &[u8]
-    ensures { result.now ≡ part file.now labels }
-{
-    part(file, Table::Labels)
 }
