@@ -1,9 +1,11 @@
 -- What becomes of a buffer that a text is written into, and what is answered.
 --     laid, place_behind      a text from a place on, as far as the buffer goes
 --     written_of, buffer_of   a whole text, or nothing where the buffer is too short
-use Rattle.std.specs.Prelude.{ℕ, ◌+◌, min, Bool, cond, List, ◌++◌, ltb, length, drop}
+--     as_written              what a function answers, as the two numbers that `written_of` has
+use Rattle.std.specs.Prelude.{ℕ, ◌+◌, min, Bool, cond, List, ◌++◌, ltb, length, drop, Result, Ok, Err}
 use Rattle.std.proofs.lemmas.List.Edits.{sets}
-use Rattle.output.specs.declared.Written.{Written}
+use Rattle.verdicts.specs.Refusals.{number}
+use Rattle.verdicts.specs.declared.Refusal.{Refusal}
 
 -- the bytes of the text stored in the buffer at `at` and the places behind, in order (the library's `sets`); past the
 -- buffer's end nothing is stored
@@ -18,8 +20,18 @@ last_place = 18446744073709551615
 unfoldable pub place_behind : (at : ℕ) (text : List ℕ) → ℕ
 place_behind at text = min (at + length text) last_place
 
+-- the number of a refusal, 0 for none; and how many bytes were written
+pub record Written : Type 0 where
+  pub refusal : ℕ
+  pub length : ℕ
+
 abbrev pub written : (refusal count : ℕ) → Written
 written refusal count = record { refusal = refusal; length = count }
+
+-- so many bytes, or a refusal's number and none
+abbrev pub as_written : Result ℕ Refusal → Written
+as_written (Ok count) = written 0 count
+as_written (Err refusal) = written (number refusal) 0
 
 -- the buffer is shorter than the text
 abbrev pub is_short : (text buffer : List ℕ) → Bool

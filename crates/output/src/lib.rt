@@ -4,14 +4,9 @@
 
 ghost use Rattle.std.specs.Prelude.{◌≡◌, [], ◌∷◌};
 ghost use Rattle.output.specs.Decimal.{decimal};
-ghost use Rattle.output.specs.Buffer.{laid, place_behind, written_of, buffer_of};
+ghost use Rattle.output.specs.Buffer.{laid, place_behind, as_written, written_of, buffer_of};
 
-// The refusal, 0 for none (31 where the buffer was too short); and how many bytes were written.
-#[derive(Drop)]
-pub struct Written {
-    pub refusal: u8,
-    pub length: usize,
-}
+use verdicts::Refusal;
 
 // Writes the byte if the buffer goes so far, and answers the place behind it. The functions below do so with their
 // texts: in a buffer of no bytes they only count.
@@ -21,12 +16,8 @@ pub fn put(out: &mut [u8], at: usize, byte: u8) -> usize
 {
     if at < out.len() {
         out[at] = byte;
-        return at + 1;
     }
-    if at < usize::MAX {
-        return at + 1;
-    }
-    at
+    at.saturating_add(1)
 }
 
 pub fn put_text(out: &mut [u8], at: usize, text: &[u8]) -> usize
@@ -34,8 +25,8 @@ pub fn put_text(out: &mut [u8], at: usize, text: &[u8]) -> usize
     ensures buffer { out.new ≡ laid text.now at out.old }
 {
     let mut end = at;
-    for i in 0..text.len() {
-        end = put(out, end, text[i]);
+    for byte in text {
+        end = put(out, end, *byte);
     }
     end
 }
@@ -61,20 +52,14 @@ pub fn put_spaced(out: &mut [u8], at: usize, n: usize) -> usize
     put_decimal(out, behind_space, n)
 }
 
-// Writes the text, or nothing where the buffer is too short.
-pub fn write_text(text: &[u8], output: &mut [u8]) -> Written
-    ensures written { result ≡ written_of text.now output.old }
+// Writes the text, and answers how many bytes it has; or nothing where the buffer is too short.
+pub fn write_text(text: &[u8], output: &mut [u8]) -> Result<usize, Refusal>
+    ensures written { as_written result ≡ written_of text.now output.old }
     ensures buffer { output.new ≡ buffer_of text.now output.old }
 {
     if output.len() < text.len() {
-        return Written {
-            refusal: 31,
-            length: 0,
-        };
+        return Err(Refusal::BufferLength);
     }
     put_text(output, 0, text);
-    Written {
-        refusal: 0,
-        length: text.len(),
-    }
+    Ok(text.len())
 }
