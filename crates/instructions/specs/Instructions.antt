@@ -3,7 +3,7 @@
 --     Bytes                      "Four bytes: code, activator (a user), a, b"
 --     rule                       the paper's table; its columns are enums of the code, and a row is the struct `Rule`
 --     instruction_of             "A code from 1 to 12 picks the kind"
-use Rattle.std.specs.Prelude.{ℕ, zero, suc, Bool, true, false, List, [], ◌∷◌}
+use Rattle.std.specs.Prelude.{ℕ, zero, suc, true, false, Option, Some, None, List, [], ◌∷◌}
 use Rattle.instructions.specs.declared.Instruction.{Instruction}
 use Rattle.instructions.specs.declared.Instruction.TheVariants.{ListArea, UnlistArea, AddOwner, RemoveOwner}
 use Rattle.instructions.specs.declared.Instruction.TheVariants.{AddStructure, RemoveStructure, Define}
@@ -16,13 +16,9 @@ use Rattle.instructions.specs.declared.Lookup.TheVariants.{NoLookup, OnlyA, Both
 use Rattle.instructions.specs.declared.MustOwn.{MustOwn}
 use Rattle.instructions.specs.declared.MustOwn.TheVariants.{OwnsNothing, OwnsA, OwnsBoth, OwnsToCut}
 use Rattle.instructions.specs.declared.Rule.{Rule}
-
--- "Four bytes: code, activator (a user), a, b." Nothing here asks that a number is below 256.
-pub record Bytes : Type 0 where
-  pub code : ℕ
-  pub activator : ℕ
-  pub a : ℕ
-  pub b : ℕ
+-- "Four bytes: code, activator (a user), a, b": the struct `Bytes` of the code. Nothing here asks that a number is below
+-- 256.
+pub use Rattle.instructions.specs.declared.Bytes.{Bytes}
 
 abbrev pub four_bytes : (code activator a b : ℕ) → Bytes
 four_bytes code activator a b = record { code = code; activator = activator; a = a; b = b }
@@ -59,17 +55,16 @@ instructions =
     ∷ Define ∷ RemoveDefinition ∷ AddImport ∷ RemoveImport ∷ AddExport ∷ RemoveExport ∷ []
 
 -- what a code picks
-pub data Picked : Type 0 where
-  unknown : Picked
-  instruction : Instruction → Picked
+abbrev pub Picked : Type 0
+Picked = Option Instruction
 
 -- the n-th of a list, from 0
 abbrev pub pick : List Instruction → ℕ → Picked
-pick [] n = unknown
-pick (x ∷ rest) zero = instruction x
+pick [] n = None
+pick (x ∷ rest) zero = Some x
 pick (x ∷ rest) (suc n) = pick rest n
 
 -- "A code from 1 to 12 picks the kind"
 abbrev pub instruction_of : ℕ → Picked
-instruction_of zero = unknown
+instruction_of zero = None
 instruction_of (suc n) = pick instructions n

@@ -2,7 +2,6 @@
 -- and what is claimed of that (Claims).
 --     instructions::rule_of   rule
 --     instructions::decode    decode_of, decoded_number
---     instructions::misfit    decoded_number
 pub mod Instructions
 pub mod Decode
 pub mod Claims

@@ -2,14 +2,24 @@
 #![tactic(auto)]
 
 ghost use Rattle.std.specs.Prelude.{◌≡◌};
-ghost use Rattle.instructions.specs.Instructions.{four_bytes, adding, removing, rule};
 ghost use Rattle.state.specs.Checks.{first_met};
-ghost use Rattle.instructions.specs.Decode.{fits, ranged_as, decode_of, decoded_number, misfits};
+ghost use Rattle.instructions.specs.Instructions.{rule, instruction_of};
+ghost use Rattle.instructions.specs.Decode.{fits, in_range, decode_of, decoded_number, misfits};
 
 use state::State;
+use verdicts::Refusal;
+
+// The bytes of an instruction: its code, the activator, who is a user, and a and b.
+#[derive(Clone, Copy)]
+pub struct Bytes {
+    pub code: u8,
+    pub activator: u8,
+    pub a: u8,
+    pub b: u8,
+}
 
 // The twelve instructions.
-#[derive(Clone, Copy)]
+#[derive(Clone, Copy, Debug, PartialEq, Eq)]
 pub enum Instruction {
     ListArea,
     UnlistArea,
@@ -62,55 +72,60 @@ pub struct Rule {
     pub ownership: MustOwn,
 }
 
-// The instruction that four bytes fit, or that they fit none: the refusal 1 or 2.
-#[derive(Clone, Copy)]
-pub enum Decoded {
-    Fits(Instruction),
-    NoCode,
-    OutOfRange,
-}
-
-// A row of an instruction that adds.
-fn add(target: Target, lookup: Lookup, ownership: MustOwn) -> Rule
-    ensures { result ≡ adding target lookup ownership }
-{
-    Rule {
-        adds: true,
-        target: target,
-        lookup: lookup,
-        ownership: ownership,
-    }
-}
-
-// A row of one that removes.
-fn remove(target: Target, lookup: Lookup, ownership: MustOwn) -> Rule
-    ensures { result ≡ removing target lookup ownership }
-{
-    Rule {
-        adds: false,
-        target: target,
-        lookup: lookup,
-        ownership: ownership,
-    }
-}
-
-// The table: what the instruction adds or removes, what must be listed, what the activator must own.
+// The table: whether the instruction adds, what it adds or removes, what must be listed, what the activator must own.
 pub fn rule_of(x: Instruction) -> Rule
     ensures { result ≡ rule x }
 {
-    match x {
-        Instruction::ListArea => add(Target::TheArea, Lookup::NoLookup, MustOwn::OwnsNothing),
-        Instruction::UnlistArea => remove(Target::TheArea, Lookup::OnlyA, MustOwn::OwnsA),
-        Instruction::AddOwner => add(Target::Owner, Lookup::OnlyA, MustOwn::OwnsA),
-        Instruction::RemoveOwner => remove(Target::Owner, Lookup::Both, MustOwn::OwnsA),
-        Instruction::AddStructure => add(Target::Structure, Lookup::Both, MustOwn::OwnsBoth),
-        Instruction::RemoveStructure => remove(Target::Structure, Lookup::Both, MustOwn::OwnsToCut),
-        Instruction::Define => add(Target::Definition, Lookup::OnlyA, MustOwn::OwnsA),
-        Instruction::RemoveDefinition => remove(Target::Definition, Lookup::Both, MustOwn::OwnsA),
-        Instruction::AddImport => add(Target::Import, Lookup::Both, MustOwn::OwnsA),
-        Instruction::RemoveImport => remove(Target::Import, Lookup::Both, MustOwn::OwnsA),
-        Instruction::AddExport => add(Target::Export, Lookup::Both, MustOwn::OwnsA),
-        Instruction::RemoveExport => remove(Target::Export, Lookup::Both, MustOwn::OwnsA),
+    let (adds, target, lookup, ownership) = match x {
+        Instruction::ListArea => (
+            true,
+            Target::TheArea,
+            Lookup::NoLookup,
+            MustOwn::OwnsNothing,
+        ),
+        Instruction::UnlistArea => (false, Target::TheArea, Lookup::OnlyA, MustOwn::OwnsA),
+        Instruction::AddOwner => (true, Target::Owner, Lookup::OnlyA, MustOwn::OwnsA),
+        Instruction::RemoveOwner => (false, Target::Owner, Lookup::Both, MustOwn::OwnsA),
+        Instruction::AddStructure => (true, Target::Structure, Lookup::Both, MustOwn::OwnsBoth),
+        Instruction::RemoveStructure => (
+            false,
+            Target::Structure,
+            Lookup::Both,
+            MustOwn::OwnsToCut,
+        ),
+        Instruction::Define => (true, Target::Definition, Lookup::OnlyA, MustOwn::OwnsA),
+        Instruction::RemoveDefinition => (false, Target::Definition, Lookup::Both, MustOwn::OwnsA),
+        Instruction::AddImport => (true, Target::Import, Lookup::Both, MustOwn::OwnsA),
+        Instruction::RemoveImport => (false, Target::Import, Lookup::Both, MustOwn::OwnsA),
+        Instruction::AddExport => (true, Target::Export, Lookup::Both, MustOwn::OwnsA),
+        Instruction::RemoveExport => (false, Target::Export, Lookup::Both, MustOwn::OwnsA),
+    };
+    Rule {
+        adds,
+        target,
+        lookup,
+        ownership,
+    }
+}
+
+// The instruction that a code picks.
+fn picked(code: u8) -> Option<Instruction>
+    ensures { result ≡ instruction_of code }
+{
+    match code {
+        1 => Some(Instruction::ListArea),
+        2 => Some(Instruction::UnlistArea),
+        3 => Some(Instruction::AddOwner),
+        4 => Some(Instruction::RemoveOwner),
+        5 => Some(Instruction::AddStructure),
+        6 => Some(Instruction::RemoveStructure),
+        7 => Some(Instruction::Define),
+        8 => Some(Instruction::RemoveDefinition),
+        9 => Some(Instruction::AddImport),
+        10 => Some(Instruction::RemoveImport),
+        11 => Some(Instruction::AddExport),
+        12 => Some(Instruction::RemoveExport),
+        _ => None,
     }
 }
 
@@ -122,54 +137,25 @@ fn is_fit(target: Target, b: u8) -> bool
         Target::TheArea => b == 0,
         Target::Owner => b < State::USERS,
         Target::Structure => b < State::AREAS,
-        Target::Definition => b < State::OBJECTS,
-        Target::Import => b < State::OBJECTS,
-        Target::Export => b < State::OBJECTS,
+        Target::Definition | Target::Import | Target::Export => b < State::OBJECTS,
     }
 }
 
-// The instruction, if its numbers are in range.
-fn ranged(x: Instruction, activator: u8, a: u8, b: u8) -> Decoded
-    ensures { result ≡ ranged_as x activator a b }
+// Are the numbers in range for the instruction?
+fn is_in_range(x: Instruction, bytes: Bytes) -> bool
+    ensures { result ≡ in_range x bytes.activator bytes.a bytes.b }
 {
-    let rule = rule_of(x);
-    let target = rule.target;
-    if (activator < State::USERS) & (a < State::AREAS) & is_fit(target, b) {
-        Decoded::Fits(x)
-    } else {
-        Decoded::OutOfRange
-    }
+    (bytes.activator < State::USERS) & (bytes.a < State::AREAS) & is_fit(rule_of(x).target, bytes.b)
 }
 
-// What four bytes fit. No list is looked at.
-pub fn decode(code: u8, activator: u8, a: u8, b: u8) -> Decoded
-    ensures equation { result ≡ decode_of (four_bytes code activator a b) }
-    ensures number { decoded_number result ≡ first_met (misfits (decode_of (four_bytes code activator a b))) }
+// The instruction that four bytes fit, or why they fit none. No list is looked at.
+pub fn decode(bytes: Bytes) -> Result<Instruction, Refusal>
+    ensures equation { result ≡ decode_of bytes }
+    ensures number { decoded_number result ≡ first_met (misfits (decode_of bytes)) }
 {
-    match code {
-        0 | 13..=255 => Decoded::NoCode,
-        1 => ranged(Instruction::ListArea, activator, a, b),
-        2 => ranged(Instruction::UnlistArea, activator, a, b),
-        3 => ranged(Instruction::AddOwner, activator, a, b),
-        4 => ranged(Instruction::RemoveOwner, activator, a, b),
-        5 => ranged(Instruction::AddStructure, activator, a, b),
-        6 => ranged(Instruction::RemoveStructure, activator, a, b),
-        7 => ranged(Instruction::Define, activator, a, b),
-        8 => ranged(Instruction::RemoveDefinition, activator, a, b),
-        9 => ranged(Instruction::AddImport, activator, a, b),
-        10 => ranged(Instruction::RemoveImport, activator, a, b),
-        11 => ranged(Instruction::AddExport, activator, a, b),
-        12 => ranged(Instruction::RemoveExport, activator, a, b),
+    let x = picked(bytes.code).ok_or(Refusal::UnknownCode)?;
+    if !is_in_range(x, bytes) {
+        return Err(Refusal::OutOfRange);
     }
-}
-
-// The refusal of what was decoded, 0 if it fits.
-pub fn misfit(decoded: Decoded) -> u8
-    ensures { result ≡ decoded_number decoded }
-{
-    match decoded {
-        Decoded::Fits(_) => 0,
-        Decoded::NoCode => 1,
-        Decoded::OutOfRange => 2,
-    }
+    Ok(x)
 }
