@@ -8,14 +8,13 @@ use mathlib.Core.List.{List, []}
 use native.Mathlib.Omega.{arith}
 use native.Mathlib.Decide.{dec_lt}
 use lib.Dec.{T}
+use Rattle.std.proofs.Common.{Some, None}
 use lib.ListN.{length}
 use Rattle.state.proofs.Bools.{fails, holds}
 use Rattle.access.specs.Lending.{Lending, step}
 use Rattle.access.specs.Chain.{ObjectChain}
-use Rattle.access.specs.Answer.{longest, answer, access}
+use Rattle.access.specs.Answer.{Answer, longest, answer, access}
 use Rattle.access.specs.Claims.{Right, is_steps}
-use Rattle.access.specs.declared.Answer.{Answer}
-use Rattle.access.specs.declared.Answer.TheVariants.{Steps, NoAccess}
 use Rattle.access.proofs.Laws.{answer_is_right, one_answer, never_above, access_is_steps}
 use Rattle.chains.specs.Chains.{ChainTo, Lower, FirstChain}
 use Rattle.chains.specs.First.{is_open, lowest_open, walk, chain_for, first_chain}
@@ -47,9 +46,9 @@ module _ (l : Lending) (a : ℕ) where
   chain_open n c = let w = chain_list (step l) l.defined_in c in passes_open (step l) a l.defined_in n w.starts w.passes w.sized
 
   -- ---- found by trying one number of steps after the other
-  by_trying : (n : ℕ) → n ≤ longest → is_open_in n ≡ true → ((m : ℕ) → m < n → is_open_in m ≡ false) → answer l a ≡ Steps n
+  by_trying : (n : ℕ) → n ≤ longest → is_open_in n ≡ true → ((m : ℕ) → m < n → is_open_in m ≡ false) → answer l a ≡ Some n
   by_trying n h t none =
-      one_answer l a (answer l a) (Steps n) (answer_is_right l a)
+      one_answer l a (answer l a) (Some n) (answer_is_right l a)
       (record { shortest = record { chain = open_chain n (holds t); least = λ m c. longer m c (dec_lt m n) }; short = h })
     where
       longer : (m : ℕ) → ObjectChain l m a → Dec (m < n) → n ≤ m
@@ -57,7 +56,7 @@ module _ (l : Lending) (a : ℕ) where
       longer m c (no k) = omega arith
 
   -- ---- the first chain
-  walk_first : (n : ℕ) → Right l a (Steps n) → FirstChain l a (walk (step l) a n l.defined_in)
+  walk_first : (n : ℕ) → Right l a (Some n) → FirstChain l a (walk (step l) a n l.defined_in)
   walk_first n r =
       let w = walk_passes (step l) a n l.defined_in (chain_open n r.shortest.chain) in
       let size : length (walk (step l) a n l.defined_in) ≡ suc n = w.sized in
@@ -72,10 +71,10 @@ module _ (l : Lending) (a : ℕ) where
       }
 
   first_for : (x : Answer) → Right l a x → T (is_steps x) → FirstChain l a (chain_for l a x)
-  first_for (Steps n) r t = walk_first n r
-  first_for NoAccess r t = absurd t
+  first_for (Some n) r t = walk_first n r
+  first_for None r t = absurd t
 
-  length_for : (n : ℕ) → Right l a (Steps n) → length (chain_for l a (Steps n)) ≡ suc n
+  length_for : (n : ℕ) → Right l a (Some n) → length (chain_for l a (Some n)) ≡ suc n
   length_for n r = (walk_passes (step l) a n l.defined_in (chain_open n r.shortest.chain)).sized
 
 pub first_by_trying : Laws.FirstByTrying
@@ -85,7 +84,7 @@ first_by_trying l a n h t none = ap (chain_for l a) (by_trying l a n h t none)
 pub none_by_trying : Laws.NoneByTrying
 unfolding first_chain
 none_by_trying l a none =
-    ap (chain_for l a) (one_answer l a (answer l a) NoAccess (answer_is_right l a) (λ m h c. fails (none m h) (chain_open l a m c)))
+    ap (chain_for l a) (one_answer l a (answer l a) None (answer_is_right l a) (λ m h c. fails (none m h) (chain_open l a m c)))
 
 pub same_leads : Laws.SameLeads
 same_leads move move' same a = leads_same move move' same a
@@ -120,16 +119,16 @@ unfolding first_chain
 nine_at_most l a = go (answer l a) refl
   where
     go : (x : Answer) → answer l a ≡ x → length (chain_for l a x) ≤ 9
-    go (Steps n) e =
+    go (Some n) e =
         let size = length_for l a n (subst (Right l a) e (answer_is_right l a)) in
         let most = never_above l a n e in
         omega arith
-    go NoAccess e = omega arith
+    go None e = omega arith
 
 pub none_exactly : Claims.NoneExactly
 unfolding first_chain
 none_exactly l a = go (answer l a) (answer_is_right l a) (access_is_steps l a)
   where
     go : (x : Answer) → Right l a x → access l a ≡ is_steps x → ((chain_for l a x ≡ []) → access l a ≡ false) × ((access l a ≡ false) → chain_for l a x ≡ [])
-    go (Steps n) r e = (λ none. let size = length_for l a n r in let empty = ap length none in absurd (omega arith), λ far. absurd (fails (sym e ∙ far) tt))
-    go NoAccess r e = (λ none. e, λ far. refl)
+    go (Some n) r e = (λ none. let size = length_for l a n r in let empty = ap length none in absurd (omega arith), λ far. absurd (fails (sym e ∙ far) tt))
+    go None r e = (λ none. e, λ far. refl)

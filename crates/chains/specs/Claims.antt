@@ -1,10 +1,9 @@
 -- What is claimed of chains of areas, in the words of document 02, point 5. Each claim is a type, which
 -- proofs/Laws.antt inhabits under the claim's name.
-use Rattle.std.specs.Prelude.{ℕ, suc, ◌≤◌, ◌≡◌, ◌↔◌, false, List, [], T, length}
+use Rattle.std.specs.Prelude.{ℕ, suc, ◌≤◌, ◌≡◌, ◌↔◌, false, List, [], T, length, Some}
 use Rattle.access.specs.Lending.{Lending}
 use Rattle.access.specs.Chain.{ObjectChain}
 use Rattle.access.specs.Answer.{answer, access}
-use Rattle.access.specs.declared.Answer.TheVariants.{Steps}
 use Rattle.chains.specs.Chains.{ChainTo, FirstChain}
 use Rattle.chains.specs.First.{first_chain}
 
@@ -24,7 +23,7 @@ OneFirst = (l : Lending) (a : ℕ) (xs ys : List ℕ) → FirstChain l a xs → 
 
 -- It has one area more than the answer has steps: the definer and the area are in it.
 abbrev pub FirstLength : Type 0
-FirstLength = (l : Lending) (a n : ℕ) → answer l a ≡ Steps n → length (first_chain l a) ≡ suc n
+FirstLength = (l : Lending) (a n : ℕ) → answer l a ≡ Some n → length (first_chain l a) ≡ suc n
 
 -- so 9 at most, since there are 8 steps at most (point 2)
 abbrev pub NineAtMost : Type 0

@@ -1,12 +1,10 @@
 -- The first chain of an object to an area, as a definition that can be computed. That it is the first, and that no
 -- other is, is claimed in Claims.antt.
-use Rattle.std.specs.Prelude.{ℕ, zero, suc, Bool, ◌&&◌, List, [], ◌∷◌, eqb}
+use Rattle.std.specs.Prelude.{ℕ, zero, suc, Bool, ◌&&◌, List, [], ◌∷◌, eqb, Some, None}
 use Rattle.state.specs.Below.{some_below, first_below}
 use Rattle.state.specs.Site.{area, limit}
 use Rattle.access.specs.Lending.{Lending, step}
-use Rattle.access.specs.Answer.{answer}
-use Rattle.access.specs.declared.Answer.{Answer}
-use Rattle.access.specs.declared.Answer.TheVariants.{Steps, NoAccess}
+use Rattle.access.specs.Answer.{Answer, answer}
 
 -- n steps lead from area s to area a
 unfoldable pub leads_in : (ℕ → ℕ → Bool) → (a n s : ℕ) → Bool
@@ -30,8 +28,8 @@ walk move a (suc n) at_hand =
 
 -- of as many steps as the answer has; without access there is none
 abbrev pub chain_for : Lending → (a : ℕ) → Answer → List ℕ
-chain_for l a (Steps n) = walk (step l) a n l.defined_in
-chain_for l a NoAccess = []
+chain_for l a (Some n) = walk (step l) a n l.defined_in
+chain_for l a None = []
 
 -- "the chain of areas from the definer: a shortest one, and among those the one with the lowest numbers compared from
 -- the front": the claims FirstIsFirst and OneFirst
