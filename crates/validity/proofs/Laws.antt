@@ -4,28 +4,31 @@
 use Prim.Native.Nat.{ℕ, zero, suc, ◌<◌}
 use mathlib.Core.Path.{◌≡◌, refl, sym, ap, ap₂, subst, ◌∙◌}
 use mathlib.Core.Logic.{◌⊎◌, inl, inr}
-use mathlib.Core.Bool.{Bool, true, false, ◌&&◌, ◌||◌, not}
+use mathlib.Core.Bool.{Bool, true, false, ◌&&◌, ◌||◌, not, cond}
 use lib.Dec.{T, eqb}
 use lib.ListN.{get_or}
 use Rattle.bits.specs.Bits.{bit, places, union, is_subset}
 use Rattle.bits.specs.Rows.{Rows, cells_of}
 use Rattle.bits.proofs.Laws.{union_bit, subset_decided}
-use Rattle.state.specs.Below.{each_below, some_below, first_below}
+use Rattle.std.proofs.Common.{Option, Some, None, is_some}
+use Rattle.state.specs.Below.{each_below, some_below, first_below, found_below}
 use Rattle.state.specs.Cells.{Pairs, pair}
 use Rattle.state.specs.Site.{Site, imports, exports, import, export, Shaped}
 use Rattle.state.specs.Stands.{site}
+use Rattle.state.specs.declared.State.{State}
 use Rattle.state.proofs.Below.{each_at, each_by, some_at, some_by, first_or_none}
-use Rattle.state.proofs.Bools.{and_both, and_left, and_right, or_left, or_right, or_cases, same_test, implied, implies, fails, so_not, not_so, test}
+use Rattle.state.proofs.Bools.{and_both, and_left, and_right, or_left, or_right, or_cases, same_test, implied, implies, fails, so_not, not_so, not_same, test}
 use Rattle.state.proofs.Laws.{pair_area, pair_first}
 use Rattle.relations.specs.Relations.{transpose}
 use Rattle.relations.proofs.Laws.{pair_bit}
 use Rattle.access.specs.Lending.{lending}
 use Rattle.access.specs.Answer.{access}
-use Rattle.search.specs.Rounds.{move_by, reachable}
+use Rattle.search.specs.Rounds.{object_in, move_by, reachable}
+use Rattle.search.specs.declared.Object.{Object}
 use Rattle.search.proofs.Laws.{reachable_is_access}
 use Rattle.soundness.specs.Tests.{is_valid}
 use Rattle.soundness.proofs.Laws.{valid_decided}
-use Rattle.validity.specs.Parts.{valid_for, site_for, lacking}
+use Rattle.validity.specs.Parts.{valid_for, lacking}
 use Rattle.validity.specs.Laws
 
 -- ---- of a state
@@ -55,8 +58,8 @@ for_back s o v =
     at a (inr p) = v.exported a p
 
 -- a state is valid where each of the 64 objects is
-by_objects : (s : Site) → Shaped s → each_below 64 (valid_for s) ≡ is_valid s
-by_objects s shaped =
+pub valid_by_objects : Laws.ValidByObjects
+valid_by_objects s shaped =
     same_test (each_below 64 (valid_for s)) (is_valid s)
     (λ t. (valid_decided s).1
     (record {
@@ -66,10 +69,6 @@ by_objects s shaped =
     (λ t.
     let v = (valid_decided s).0 t in
     each_by (valid_for s) 64 (λ o h. for_back s o (record { imported = v.imported o; exported = v.exported o })))
-
-pub valid_by_objects : Laws.ValidByObjects
-unfolding site valid_for
-valid_by_objects s shaped = by_objects (site s) shaped
 
 -- ---- the object's pairs of two relations
 -- each number passes where none fails
@@ -92,23 +91,30 @@ valid_lacking s o = each_not_some _ _ 32 (λ a. either (imports s o a || exports
     either true false = refl
     either false q = refl
 
--- each object is valid where no object is the first that lacks access
-pub each_by_first : (s : Site) (r : ℕ) → r ≡ first_below 64 (lacking s s.imports s.exports) → eqb r 64 ≡ each_below 64 (valid_for s)
-each_by_first s r e =
-    ap (λ (n : ℕ). eqb n 64) e ∙ first_or_none (lacking s s.imports s.exports) 64
-    ∙ sym (each_not_some (valid_for s) (lacking s s.imports s.exports) 64 (valid_lacking s))
+-- a number is found where some number meets the test
+found_some : (f : ℕ → Bool) (n : ℕ) → is_some (found_below n f) ≡ some_below n f
+found_some f n = go (eqb (first_below n f) n) ∙ ap not (first_or_none f n) ∙ not_same (some_below n f)
+  where
+    go : (b : Bool) → is_some (cond b None (Some (first_below n f))) ≡ not b
+    go true = refl
+    go false = refl
+
+-- a state is valid where no object is found that lacks access
+pub valid_by_first : (s : Site) → Shaped s → (r : Option ℕ) (valid : Bool) → r ≡ found_below 64 (lacking s s.imports s.exports) → is_some r ≡ not valid
+    → valid ≡ is_valid s
+valid_by_first s shaped r valid e n =
+    sym (not_same valid) ∙ ap not (sym n ∙ ap (λ (x : Option ℕ). is_some x) e ∙ found_some (lacking s s.imports s.exports) 64)
+    ∙ sym (each_not_some (valid_for s) (lacking s s.imports s.exports) 64 (valid_lacking s)) ∙ valid_by_objects s shaped
 
 -- ---- by the rows of its relations
-module _ (ds st : Rows) (tr : Pairs) (im ex these those : Rows) (turned : tr ≡ transpose (cells_of st)) (o : ℕ) where
-  abbrev here : Site
-  here = site_for ds st im ex
-
+module _ (s : State) (tr : Pairs) (these those : Rows) (turned : tr ≡ transpose (cells_of s.structure)) (o : ℕ) where
   -- the areas that the object is wanted in, and those that it reaches
   abbrev wanted : ℕ
   wanted = union (get_or these o 0) (get_or those o 0)
 
-  abbrev reached : ℕ
-  reached = reachable (bit (get_or ds o 0)) (move_by (cells_of st) tr (bit (get_or im o 0)) (bit (get_or ex o 0)))
+  abbrev pub reached : ℕ
+  reached =
+      reachable (bit (get_or s.definitions o 0)) (move_by (cells_of s.structure) tr (bit (get_or s.imports o 0)) (bit (get_or s.exports o 0)))
 
   abbrev is_wanted : ℕ → Bool
   is_wanted a = pair (cells_of these) o a || pair (cells_of those) o a
@@ -116,12 +122,19 @@ module _ (ds st : Rows) (tr : Pairs) (im ex these those : Rows) (turned : tr ≡
   wanted_bit : (a : ℕ) → a < places → bit wanted a ≡ is_wanted a
   wanted_bit a h = union_bit (get_or these o 0) (get_or those o 0) a h ∙ sym (ap₂ ◌||◌ (pair_bit these o a h) (pair_bit those o a h))
 
-  pub subset_lacking : is_subset wanted reached ≡ not (lacking here (cells_of these) (cells_of those) o)
+  reached_bit : (a : ℕ) → bit reached a ≡ access (lending (site s) o) a
+  unfolding site
+  reached_bit a = reachable_is_access s.definitions s.structure tr s.imports s.exports o a turned
+
+  pub subset_lacking : is_subset wanted reached ≡ not (lacking (site s) (cells_of these) (cells_of those) o)
   unfolding lacking
   subset_lacking = same_test (is_subset wanted reached) (not found) there back
     where
+      has : ℕ → Bool
+      has a = access (lending (site s) o) a
+
       lacks : ℕ → Bool
-      lacks a = is_wanted a && not (access (lending here o) a)
+      lacks a = is_wanted a && not (has a)
 
       found : Bool
       found = some_below 32 lacks
@@ -131,20 +144,21 @@ module _ (ds st : Rows) (tr : Pairs) (im ex these those : Rows) (turned : tr ≡
           so_not found (λ f.
           let q = some_at lacks 32 f in
           let a = q.place in
-          not_so (access (lending here o) a) (and_right (is_wanted a) (not (access (lending here o) a)) q.met)
-          (subst T (reachable_is_access ds st tr im ex o a turned)
-          ((subset_decided wanted reached).0 t a q.below (subst T (sym (wanted_bit a q.below)) (and_left (is_wanted a) (not (access (lending here o) a)) q.met)))))
+          not_so (has a) (and_right (is_wanted a) (not (has a)) q.met)
+          (subst T (reached_bit a)
+          ((subset_decided wanted reached).0 t a q.below (subst T (sym (wanted_bit a q.below)) (and_left (is_wanted a) (not (has a)) q.met)))))
 
       back : T (not found) → T (is_subset wanted reached)
-      back none = (subset_decided wanted reached).1 (λ a h p. subst T (sym (reachable_is_access ds st tr im ex o a turned)) (go a h (subst T (wanted_bit a h) p) (test (access (lending here o) a))))
+      back none = (subset_decided wanted reached).1 (λ a h p. subst T (sym (reached_bit a)) (go a h (subst T (wanted_bit a h) p) (test (has a))))
         where
-          go : (a : ℕ) → a < places → T (is_wanted a) → T (access (lending here o) a) ⊎ (access (lending here o) a ≡ false) → T (access (lending here o) a)
+          go : (a : ℕ) → a < places → T (is_wanted a) → T (has a) ⊎ (has a ≡ false) → T (has a)
           go a h p (inl t) = t
-          go a h p (inr far) = absurd (not_so found none (some_by lacks 32 a h (and_both (is_wanted a) (not (access (lending here o) a)) p (so_not (access (lending here o) a) (fails far)))))
+          go a h p (inr far) = absurd (not_so found none (some_by lacks 32 a h (and_both (is_wanted a) (not (has a)) p (so_not (has a) (fails far)))))
 
 -- one object, by what the calls promise
-pub for_by_rows : (ds st : Rows) (tr : Pairs) (im ex : Rows) → tr ≡ transpose (cells_of st) → (o defined imported exported all : ℕ) (r : Bool)
-    → defined ≡ get_or ds o 0 → imported ≡ get_or im o 0 → exported ≡ get_or ex o 0 → all ≡ union imported exported
-    → r ≡ is_subset all (reachable (bit defined) (move_by (cells_of st) tr (bit imported) (bit exported))) → r ≡ valid_for (site_for ds st im ex) o
-for_by_rows ds st tr im ex turned o defined imported exported all r d m e u p =
-    p ∙ rw (u, d, m, e) (subset_lacking ds st tr im ex im ex turned o) ∙ sym (valid_lacking (site_for ds st im ex) o)
+pub for_by_rows : (s : State) (object : ℕ) (o : Object) (all : ℕ) (r : Bool) → o ≡ object_in s object → all ≡ union o.imported o.exported
+    → r ≡ is_subset all (reachable (bit o.defined) (move_by (cells_of s.structure) (transpose (cells_of s.structure)) (bit o.imported) (bit o.exported)))
+    → r ≡ valid_for (site s) object
+unfolding site
+for_by_rows s object o all r e u p =
+    p ∙ rw (u, e) (subset_lacking s (transpose (cells_of s.structure)) s.imports s.exports refl object) ∙ sym (valid_lacking (site s) object)

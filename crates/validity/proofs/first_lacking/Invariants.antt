@@ -5,12 +5,13 @@ use mathlib.Core.Path.{◌≡◌}
 use mathlib.Core.Bool.{false}
 use Rattle.bits.specs.Rows.{cells_of}
 use Rattle.state.specs.Below.{some_below}
-use Rattle.validity.specs.Parts.{site_for, lacking}
+use Rattle.state.specs.Stands.{site}
+use Rattle.validity.specs.Parts.{lacking}
 use Rattle.validity.proofs.first_lacking.Given as goal
 
 abbrev pub invariant-loop-o : goal.invariant-loop-o
 invariant-loop-o l =
-    (l.o ≤ 64) × (some_below l.o (lacking (site_for l.definitions l.structure l.imports l.exports) (cells_of l.these) (cells_of l.those)) ≡ false)
+    (l.o ≤ 64) × (some_below l.o (lacking (site l.s) (cells_of l.these) (cells_of l.those)) ≡ false)
 
 abbrev pub decreases-loop-o : goal.decreases-loop-o
 decreases-loop-o l = 64 - l.o
