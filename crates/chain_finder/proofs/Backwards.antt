@@ -26,12 +26,13 @@ use Rattle.relations.proofs.Laws.{pair_bit, transpose_reads}
 use Rattle.access.specs.Lending.{Lending, step, lending_of}
 use Rattle.access.specs.Answer.{longest}
 use Rattle.search.specs.Rounds.{move_by, next_to}
+use Rattle.search.specs.declared.Object.{Object}
 use Rattle.search.proofs.Laws.{same_step}
 use Rattle.chains.specs.First.{leads_in, is_open, walk, first_chain}
 use Rattle.chains.proofs.Laws.{first_by_trying, none_by_trying, same_leads, same_walk, nine_at_most}
 use Rattle.output.specs.Buffer.{laid, place_behind}
 use Rattle.output.proofs.Placing.{Placed, place_counts}
-use Rattle.chain_finder.specs.Parts.{leading_row, AreLeading}
+use Rattle.chain_finder.specs.Parts.{moves, leading_row, AreLeading}
 use Rattle.chain_finder.proofs.Walking.{leading_none, leading_bit, leading_fits, open_some}
 
 module _ (st : Pairs) (imported exported a : ℕ) where
@@ -143,35 +144,35 @@ module _ (ds st im ex : Rows) (o a : ℕ) where
   starts : (s : ℕ) → s < width → start s ≡ object.defined_in s
   starts s h = sym (pair_bit ds o s h)
 
-  moves : (s r : ℕ) → s < width → r < width → steps s r ≡ step object s r
-  moves = same_step ds st (transpose (cells_of st)) im ex o refl
+  same_moves : (s r : ℕ) → s < width → r < width → steps s r ≡ step object s r
+  same_moves = same_step ds st (transpose (cells_of st)) im ex o refl
 
   same_open : (n : ℕ) → is_open steps a n start ≡ is_open (step object) a n object.defined_in
-  same_open n = some_same _ _ width (λ s h. ap₂ (λ (x y : Bool). x && y) (starts s h) (same_leads steps (step object) moves a n s h))
+  same_open n = some_same _ _ width (λ s h. ap₂ (λ (x y : Bool). x && y) (starts s h) (same_leads steps (step object) same_moves a n s h))
 
-  module _ (defined imported exported : ℕ) (d : defined ≡ get_or ds o 0) (m : imported ≡ get_or im o 0) (e : exported ≡ get_or ex o 0) where
-    -- the steps on the rows that the calls give
+  module _ (rows : Object) (e : rows ≡ record { defined = get_or ds o 0; imported = get_or im o 0; exported = get_or ex o 0 }) where
+    -- the steps on the rows of the object
     abbrev given : ℕ → ℕ → Bool
-    given = move (cells_of st) imported exported a
+    given = moves rows st
 
-    given_open : (n : ℕ) (v : Bool) → is_open given a n (bit defined) ≡ v → is_open (step object) a n object.defined_in ≡ v
-    given_open n v t = sym (same_open n) ∙ (rw (d, m, e) at t)
+    given_open : (n : ℕ) (v : Bool) → is_open given a n (bit rows.defined) ≡ v → is_open (step object) a n object.defined_in ≡ v
+    given_open n v t = sym (same_open n) ∙ (rw e at t)
 
-    pub chain_none : ((n : ℕ) → n ≤ longest → is_open given a n (bit defined) ≡ false) → (out : List ℕ)
+    pub chain_none : ((n : ℕ) → n ≤ longest → is_open given a n (bit rows.defined) ≡ false) → (out : List ℕ)
         → (0 ≡ length (first_chain object a)) × (out ≡ laid (first_chain object a) 0 out)
     unfolding laid
     chain_none far out =
         let none : first_chain object a ≡ [] = none_by_trying object a (λ n h. given_open n false (far n h)) in
         (sym (ap length none), sym (ap (λ (text : List ℕ). laid text 0 out) none))
 
-    module _ (n row : ℕ) (rows : Rows) (w : Tried (cells_of st) imported exported a defined n row rows) where
-      first_is : n ≤ longest → is_open given a n (bit defined) ≡ true → walk given a n (bit defined) ≡ first_chain object a
+    module _ (n row : ℕ) (kept : Rows) (w : Tried (cells_of st) rows.imported rows.exported a rows.defined n row kept) where
+      first_is : n ≤ longest → is_open given a n (bit rows.defined) ≡ true → walk given a n (bit rows.defined) ≡ first_chain object a
       first_is h t =
-          rw (d, m, e) (same_walk start object.defined_in steps (step object) starts moves a n (rw (d, m, e) at t))
+          rw e (same_walk start object.defined_in steps (step object) starts same_moves a n (rw e at t))
           ∙ sym (first_by_trying object a n h (given_open n true t) (λ k l. given_open k false (w.none k l)))
 
-      pub chain_found : n ≤ longest → is_open given a n (bit defined) ≡ true → (before : List ℕ) (end : ℕ) (after : List ℕ)
-          → Placed (walk given a n (bit defined)) 0 before end after
+      pub chain_found : n ≤ longest → is_open given a n (bit rows.defined) ≡ true → (before : List ℕ) (end : ℕ) (after : List ℕ)
+          → Placed (walk given a n (bit rows.defined)) 0 before end after
           → (end ≡ length (first_chain object a)) × (after ≡ laid (first_chain object a) 0 before)
       chain_found h t before end after p =
           let same = first_is h t in

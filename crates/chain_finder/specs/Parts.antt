@@ -1,9 +1,16 @@
 -- Not needed to believe a claim. What this crate's own functions promise each other, of rows of bits.
 use Rattle.std.specs.Prelude.{ℕ, ◌≤◌, ◌≡◌, Bool, cond, List, get_or}
 use Rattle.bits.specs.Bits.{bit, places, word}
-use Rattle.bits.specs.Rows.{Rows}
+use Rattle.bits.specs.Rows.{Rows, cells_of}
 use Rattle.state.specs.Tabulate.{tabulate}
+use Rattle.relations.specs.Relations.{transpose}
+use Rattle.search.specs.Rounds.{move_by}
+use Rattle.search.specs.declared.Object.{Object}
 use Rattle.chains.specs.First.{leads_in}
+
+-- one step of an object, by its rows and those of the structure
+abbrev pub moves : Object → (structure : Rows) → ℕ → ℕ → Bool
+moves o structure = move_by (cells_of structure) (transpose (cells_of structure)) (bit o.imported) (bit o.exported)
 
 -- the counts, with n for each area of the row
 unfoldable pub counted_as : (n areas : ℕ) → (counts : List ℕ) → List ℕ

@@ -4,14 +4,15 @@
 
 ghost use Rattle.std.specs.Prelude.{◌≡◌, true, ◌≤◌, length};
 ghost use Rattle.bits.specs.Bits.{bit};
-ghost use Rattle.bits.specs.Rows.{cells_of};
-ghost use Rattle.relations.specs.Relations.{transpose};
-ghost use Rattle.access.specs.Lending.{lending_of};
+ghost use Rattle.state.specs.Stands.{site};
+ghost use Rattle.access.specs.Lending.{lending};
 ghost use Rattle.access.specs.Answer.{longest, counts_within, least_counts};
-ghost use Rattle.search.specs.Rounds.{move_by};
 ghost use Rattle.chains.specs.First.{is_open, walk, first_chain};
 ghost use Rattle.output.specs.Buffer.{laid, place_behind};
-ghost use Rattle.chain_finder.specs.Parts.{counted_as, AreLeading};
+ghost use Rattle.chain_finder.specs.Parts.{moves, counted_as, AreLeading};
+
+use search::Object;
+use state::State;
 
 // The count of an area without access.
 pub const UNREACHED: u8 = 255;
@@ -32,16 +33,15 @@ fn count_as(counts: &mut [u8; 32], areas: u32, n: u8)
 }
 
 // The counts of an object that is given by its rows, layer by layer.
-fn counts_of(defined: u32, structure: &[u32; 32], imported: u32, exported: u32) -> [u8; 32]
-    ensures { result ≡ counts_within (bit defined) (move_by (cells_of structure.now) (transpose
-        (cells_of structure.now)) (bit imported) (bit exported)) longest }
+fn counts_of(o: Object, structure: &[u32; 32]) -> [u8; 32]
+    ensures { result ≡ counts_within (bit o.defined) (moves o structure.now) longest }
 {
     let mut counts = [UNREACHED; 32];
-    count_as(&mut counts, defined, 0);
-    let mut layer = defined;
-    let mut reached = defined;
+    count_as(&mut counts, o.defined, 0);
+    let mut layer = o.defined;
+    let mut reached = o.defined;
     for n in 0..search::LONGEST {
-        let near = search::next_alone(layer, structure, imported, exported);
+        let near = search::next_alone(layer, structure, o.imported, o.exported);
         let new = bits::difference(near, reached);
         if bits::is_empty(new) {
             return counts;
@@ -55,20 +55,11 @@ fn counts_of(defined: u32, structure: &[u32; 32], imported: u32, exported: u32) 
 }
 
 // The least number of steps of each area, 255 for an area that lacks access.
-pub fn least_counts<'a>(
-    definitions: &'a [u32; 64],
-    structure: &'a [u32; 32],
-    imports: &'a [u32; 64],
-    exports: &'a [u32; 64],
-    object: u8,
-) -> [u8; 32]
-    ensures { result ≡ least_counts (lending_of (cells_of definitions.now) (cells_of structure.now)
-        (cells_of imports.now) (cells_of exports.now) object) }
+pub fn least_counts(s: &State, object: u8) -> [u8; 32]
+    ensures { result ≡ least_counts (lending (site s.now) object) }
 {
-    let defined = relations::row_of(definitions, object);
-    let imported = relations::row_of(imports, object);
-    let exported = relations::row_of(exports, object);
-    counts_of(defined, structure, imported, exported)
+    let o = search::object_of(s, object);
+    counts_of(o, &s.structure)
 }
 
 // ---- the chain
@@ -78,29 +69,23 @@ fn put_walk<'a>(
     out: &'a mut [u8],
     rows: &'a [u32; 9],
     n: usize,
-    defined: u32,
+    o: Object,
     structure: &'a [u32; 32],
-    imported: u32,
-    exported: u32,
     area: u8,
 ) -> usize
-    requires { (n ≤ longest) × AreLeading (move_by (cells_of structure.now) (transpose (cells_of structure.now))
-        (bit imported) (bit exported)) area n rows.now
-        × (is_open (move_by (cells_of structure.now) (transpose (cells_of structure.now)) (bit imported) (bit exported))
-        area n (bit defined) ≡ true) }
-    ensures place { result ≡ place_behind 0 (walk (move_by (cells_of structure.now) (transpose
-        (cells_of structure.now)) (bit imported) (bit exported)) area n (bit defined)) }
-    ensures buffer { out.new ≡ laid (walk (move_by (cells_of structure.now) (transpose (cells_of
-        structure.now)) (bit imported) (bit exported)) area n (bit defined)) 0 out.old }
+    requires { (n ≤ longest) × AreLeading (moves o structure.now) area n rows.now
+        × (is_open (moves o structure.now) area n (bit o.defined) ≡ true) }
+    ensures place { result ≡ place_behind 0 (walk (moves o structure.now) area n (bit o.defined)) }
+    ensures buffer { out.new ≡ laid (walk (moves o structure.now) area n (bit o.defined)) 0 out.old }
 {
     let mut end: usize = 0;
-    let mut at_hand = defined;
+    let mut at_hand = o.defined;
     for k in 0..n {
         let open = bits::intersection(at_hand, rows[n - k]);
         let next = bits::lowest(open);
         end = output::put(out, end, next);
         let only = bits::with_bit(0, next, true);
-        at_hand = search::next_alone(only, structure, imported, exported);
+        at_hand = search::next_alone(only, structure, o.imported, o.exported);
     }
     output::put(out, end, area)
 }
@@ -108,36 +93,23 @@ fn put_walk<'a>(
 // Writes the first chain of the object to the area, and answers how many areas it has: 0 without access, and then
 // nothing is written. The areas from which one step more leads to the area are found backwards: a step is gone back by
 // a step with imports and exports exchanged. Where there are none, there are none for more steps.
-pub fn put_chain<'a>(
-    definitions: &'a [u32; 64],
-    structure: &'a [u32; 32],
-    imports: &'a [u32; 64],
-    exports: &'a [u32; 64],
-    area: u8,
-    object: u8,
-    out: &'a mut [u8],
-) -> usize
-    ensures place { result ≡ length (first_chain (lending_of (cells_of definitions.now) (cells_of structure.now)
-        (cells_of imports.now) (cells_of exports.now) object) area) }
-    ensures buffer { out.new ≡ laid (first_chain (lending_of (cells_of definitions.now) (cells_of
-        structure.now) (cells_of imports.now) (cells_of exports.now) object) area) 0
-        out.old }
+pub fn put_chain(s: &State, area: u8, object: u8, out: &mut [u8]) -> usize
+    ensures place { result ≡ length (first_chain (lending (site s.now) object) area) }
+    ensures buffer { out.new ≡ laid (first_chain (lending (site s.now) object) area) 0 out.old }
 {
-    let defined = relations::row_of(definitions, object);
-    let imported = relations::row_of(imports, object);
-    let exported = relations::row_of(exports, object);
+    let o = search::object_of(s, object);
     let mut rows = [0u32; 9];
     let mut row = bits::with_bit(0, area, true);
     for n in 0..9usize {
         rows[n] = row;
-        let starts = bits::intersection(defined, row);
+        let starts = bits::intersection(o.defined, row);
         if !bits::is_empty(starts) {
-            return put_walk(out, &rows, n, defined, structure, imported, exported, area);
+            return put_walk(out, &rows, n, o, &s.structure, area);
         }
         if bits::is_empty(row) {
             return 0;
         }
-        let before = search::next_alone(row, structure, exported, imported);
+        let before = search::next_alone(row, &s.structure, o.exported, o.imported);
         row = before;
     }
     0

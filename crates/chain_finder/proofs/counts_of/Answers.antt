@@ -7,11 +7,9 @@ use native.Mathlib.Omega.{arith}
 use native.Mathlib.Numerals.{add-one}
 use lib.ListN.{length}
 use Rattle.bits.specs.Bits.{bit}
-use Rattle.bits.specs.Rows.{cells_of}
-use Rattle.relations.specs.Relations.{transpose}
 use Rattle.access.specs.Answer.{longest}
-use Rattle.search.specs.Rounds.{move_by}
 use Rattle.search.proofs.Layers.{layer_row, first_row, round, reach}
+use Rattle.chain_finder.specs.Parts.{moves}
 use Rattle.chain_finder.proofs.Layered.{counts_length, start_counts, next_counts, ended_counts, last_counts}
 use Rattle.chain_finder.proofs.counts_of.Goals as goal
 use Rattle.chain_finder.proofs.counts_of.Goals.{After-difference-new}
@@ -19,13 +17,13 @@ use Rattle.chain_finder.proofs.counts_of.Goals.{After-difference-new}
 pub loop-n-init : goal.loop-n-init
 unfolding layer_row
 loop-n-init c =
-    let first = first_row _ _ c.ranges.defined.fits in
+    let first = first_row _ _ c.well_formed.0.1.1.0.1 in
     (zero-le, first, first, start_counts _ _ _ _ first c.count_as.ensures)
 
 -- after `difference` the new areas are the next layer
 new_layer : (c : After-difference-new)
     → let a = c.args in
-    c.difference-new.result ≡ layer_row (bit a.defined) (move_by (cells_of a.structure.now) (transpose (cells_of a.structure.now)) (bit a.imported) (bit a.exported)) (suc c.loop-n.n)
+    c.difference-new.result ≡ layer_row (bit a.o.defined) (moves a.o a.structure.now) (suc c.loop-n.n)
 new_layer c =
     let inv = c.loop-n.invariant in
     round _ _ _ _ _ _ _ inv.1 inv.2 c.next_alone-near.ensures c.difference-new.ensures
@@ -39,10 +37,6 @@ returns-then-is_empty c =
 pub count_as-requires-in-loop-n : goal.count_as-requires-in-loop-n
 count_as-requires-in-loop-n c =
     ap length c.loop-n.invariant.3 ∙ counts_length _ _ _
-
-pub loop-n-smaller : goal.loop-n-smaller
-unfolding longest
-loop-n-smaller c = omega arith
 
 pub loop-n-preserved : goal.loop-n-preserved
 unfolding longest

@@ -1,21 +1,17 @@
 -- `chain_finder::counts_of` meets its contract. The loop's invariant: `reached` has the areas within n steps, `layer` those that are reached first in n,
 -- and the counts of the areas reached are there.
 -- Assumes nothing.
-use Prim.Native.Nat.{◌-◌, ◌≤◌}
+use Prim.Native.Nat.{◌≤◌}
 use mathlib.Core.Path.{◌≡◌}
 use Rattle.bits.specs.Bits.{bit}
-use Rattle.bits.specs.Rows.{cells_of}
-use Rattle.relations.specs.Relations.{transpose}
 use Rattle.access.specs.Answer.{longest}
-use Rattle.search.specs.Rounds.{move_by}
 use Rattle.search.proofs.Layers.{reached_row, layer_row}
+use Rattle.chain_finder.specs.Parts.{moves}
 use Rattle.chain_finder.proofs.Layered.{counts_to}
 use Rattle.chain_finder.proofs.counts_of.Given as goal
 
 abbrev pub invariant-loop-n : goal.invariant-loop-n
 invariant-loop-n l =
-    let move = move_by (cells_of l.structure) (transpose (cells_of l.structure)) (bit l.imported) (bit l.exported) in
-    (l.n ≤ longest) × (l.layer ≡ layer_row (bit l.defined) move l.n) × (l.reached ≡ reached_row (bit l.defined) move l.n) × (l.counts ≡ counts_to (bit l.defined) move l.n)
-
-abbrev pub decreases-loop-n : goal.decreases-loop-n
-decreases-loop-n l = longest - l.n
+    let start = bit l.o.defined in
+    let move = moves l.o l.structure in
+    (l.n ≤ longest) × (l.layer ≡ layer_row start move l.n) × (l.reached ≡ reached_row start move l.n) × (l.counts ≡ counts_to start move l.n)

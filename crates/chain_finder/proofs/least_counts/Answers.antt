@@ -7,12 +7,16 @@ use lib.ListN.{get_or}
 use Rattle.bits.specs.Bits.{bit}
 use Rattle.bits.specs.Rows.{Rows, cells_of}
 use Rattle.state.specs.Site.{area, limit}
+use Rattle.state.specs.Stands.{site}
+use Rattle.state.specs.declared.State.{State}
 use Rattle.state.proofs.Tabulate.{same_table}
 use Rattle.relations.specs.Relations.{transpose}
-use Rattle.access.specs.Lending.{lending_of}
+use Rattle.access.specs.Lending.{lending_of, lending}
 use Rattle.access.specs.Answer.{longest, answer, answer_number, counts_within, least_counts}
-use Rattle.search.specs.Rounds.{move_by}
+use Rattle.search.specs.Rounds.{object_in, move_by}
+use Rattle.search.specs.declared.Object.{Object}
 use Rattle.search.proofs.Laws.{same_answer}
+use Rattle.chain_finder.specs.Parts.{moves}
 use Rattle.chain_finder.proofs.least_counts.Goals as goal
 
 module _ (ds st im ex : Rows) (o : ℕ) where
@@ -21,12 +25,11 @@ module _ (ds st im ex : Rows) (o : ℕ) where
   unfolding counts_within least_counts answer
   same_counts = same_table _ _ 0 (limit area) (λ a h. ap answer_number (same_answer ds st (transpose (cells_of st)) im ex o refl a))
 
-  -- the counts, by what the calls promise
-  counted : (defined imported exported : ℕ) (counts : List ℕ) → defined ≡ get_or ds o 0 → imported ≡ get_or im o 0 → exported ≡ get_or ex o 0
-      → counts ≡ counts_within (bit defined) (move_by (cells_of st) (transpose (cells_of st)) (bit imported) (bit exported)) longest
-      → counts ≡ least_counts (lending_of (cells_of ds) (cells_of st) (cells_of im) (cells_of ex) o)
-  counted defined imported exported counts d m e p = p ∙ rw (d, m, e) same_counts
+-- the counts, by what the calls promise
+counted : (s : State) (object : ℕ) (o : Object) (counts : List ℕ) → o ≡ object_in s object → counts ≡ counts_within (bit o.defined) (moves o s.structure) longest
+    → counts ≡ least_counts (lending (site s) object)
+unfolding site
+counted s object o counts e p = p ∙ rw e (same_counts s.definitions s.structure s.imports s.exports object)
 
 pub returns : goal.returns
-returns c =
-    counted _ _ _ _ _ _ _ _ _ c.row_of-defined.ensures c.row_of-imported.ensures c.row_of-exported.ensures c.counts_of.ensures
+returns c = counted c.args.s.now c.args.object _ _ c.object_of-o.ensures c.counts_of.ensures

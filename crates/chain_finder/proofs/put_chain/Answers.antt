@@ -7,6 +7,7 @@ use mathlib.Core.Path.{◌≡◌, refl, ap, ◌∙◌}
 use mathlib.Core.List.{List}
 use native.Mathlib.Omega.{arith}
 use lib.ListN.{length}
+use Rattle.state.specs.Stands.{site}
 use Rattle.access.specs.Answer.{longest}
 use Rattle.output.specs.Buffer.{laid}
 use Rattle.chain_finder.proofs.Backwards.{tried_none, tried_rows, tried_open, tried_empty, tried_more, chain_found, chain_none}
@@ -31,12 +32,12 @@ put_walk-requires c =
     )
 
 pub returns-then-not-is_empty : goal.returns-then-not-is_empty
-unfolding longest
+unfolding site longest
 returns-then-not-is_empty c =
     let inv = c.loop-n.invariant in
     let found = tried_open _ _ _ _ _ _ _ _ c.loop-n-test.true inv.2 _ _ _ c.intersection-starts.ensures c.is_empty.ensures (ap not c.if-not-is_empty.true) in
     let p = unchanged _ _ _ _ _ inv.1
-    (chain_found _ _ _ _ _ _ _ _ _ c.row_of-defined.ensures c.row_of-imported.ensures c.row_of-exported.ensures _ _ _ inv.2
+    (chain_found _ _ _ _ _ _ _ c.object_of-o.ensures _ _ _ inv.2
     (omega arith) found _ _ _ (c.put_walk.ensures.place, c.put_walk.ensures.buffer)) in
     record { place = p.0; buffer = p.1 }
 
@@ -48,18 +49,19 @@ loop-n-preserved c =
     (omega arith, inv.1, tried_more _ _ _ _ _ _ _ _ below inv.2 _ far c.next_alone-before.ensures)
 
 pub returns-then-is_empty : goal.returns-then-is_empty
+unfolding site
 returns-then-is_empty c =
     let inv = c.loop-n.invariant in
     let none = tried_empty _ _ _ _ _ _ _ _ c.loop-n-test.true inv.2 _ c.is_empty-in-loop-n.ensures c.if-is_empty.true in
     let p = unchanged _ _ _ _ _ inv.1
-    (chain_none _ _ _ _ _ _ _ _ _ c.row_of-defined.ensures c.row_of-imported.ensures c.row_of-exported.ensures (λ n h. none n) _) in
+    (chain_none _ _ _ _ _ _ _ c.object_of-o.ensures (λ n h. none n) _) in
     record { place = p.0; buffer = p.1 }
 
 pub returns : goal.returns
-unfolding longest
+unfolding site longest
 returns c =
     let inv = c.loop-n.invariant in
     let p = unchanged _ _ _ _ _ inv.1
-    (chain_none _ _ _ _ _ _ _ _ _ c.row_of-defined.ensures c.row_of-imported.ensures c.row_of-exported.ensures
+    (chain_none _ _ _ _ _ _ _ c.object_of-o.ensures
     (λ n h. inv.2.none n (omega arith)) _) in
     record { place = p.0; buffer = p.1 }
