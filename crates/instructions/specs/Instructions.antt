@@ -16,9 +16,12 @@ use Rattle.instructions.specs.declared.Lookup.TheVariants.{NoLookup, OnlyA, Both
 use Rattle.instructions.specs.declared.MustOwn.{MustOwn}
 use Rattle.instructions.specs.declared.MustOwn.TheVariants.{OwnsNothing, OwnsA, OwnsBoth, OwnsToCut}
 use Rattle.instructions.specs.declared.Rule.{Rule}
+use Rattle.instructions.specs.declared.Bytes.{Bytes as DeclaredBytes}
+
 -- "Four bytes: code, activator (a user), a, b": the struct `Bytes` of the code. Nothing here asks that a number is below
 -- 256.
-pub use Rattle.instructions.specs.declared.Bytes.{Bytes}
+abbrev pub Bytes : Type 0
+Bytes = DeclaredBytes
 
 abbrev pub four_bytes : (code activator a b : ℕ) → Bytes
 four_bytes code activator a b = record { code = code; activator = activator; a = a; b = b }

@@ -1,5 +1,5 @@
 -- What an instruction changes (document 01, 'The twelve instructions'): the state that it would give.
-use Rattle.std.specs.Prelude.{ℕ, Bool, true, false, ◌&&◌}
+use Rattle.std.specs.Prelude.{ℕ, Bool, true, false, ◌&&◌, Ok, Err}
 use Rattle.state.specs.Site.{Site, user, area, object, listed, with_listed}
 use Rattle.state.specs.Site.{owner, definition, structure, import, export, cells, with_pair}
 use Rattle.state.specs.Walk.{has_first}
@@ -7,8 +7,7 @@ use Rattle.instructions.specs.Instructions.{Bytes, rule}
 use Rattle.instructions.specs.declared.Instruction.{Instruction}
 use Rattle.instructions.specs.declared.Target.{Target}
 use Rattle.instructions.specs.declared.Target.TheVariants.{TheArea, Owner, Definition, Structure, Import, Export}
-use Rattle.instructions.specs.declared.Decoded.{Decoded}
-use Rattle.instructions.specs.declared.Decoded.TheVariants.{Fits, NoCode, OutOfRange}
+use Rattle.instructions.specs.Decode.{Decoded}
 
 -- "Codes 2 and 4 unlist a user who owns no area afterwards": he is listed if he was and owns an area by the owner pairs
 -- that are left
@@ -42,6 +41,5 @@ successor s x u a b = changed s (rule x).target (rule x).adds u a b
 
 -- the same for four bytes, by what they fit; those that fit no instruction change nothing
 abbrev pub successor_of : Site → Bytes → Decoded → Site
-successor_of s bytes (Fits x) = successor s x bytes.activator bytes.a bytes.b
-successor_of s bytes NoCode = s
-successor_of s bytes OutOfRange = s
+successor_of s bytes (Ok x) = successor s x bytes.activator bytes.a bytes.b
+successor_of s bytes (Err refusal) = s
