@@ -1,34 +1,32 @@
 -- Rows that are laid into a buffer as bytes, one behind the other: by a loop, four bytes a turn, and set by set.
 -- Assumes nothing.
-use Prim.Native.Nat.{ℕ, ◌+◌, ◌*◌, ◌/◌, ◌%◌, ◌^◌, ◌≤◌, ◌<◌}
+use Prim.Native.Nat.{ℕ, suc, ◌+◌, ◌*◌, ◌/◌, ◌%◌, ◌^◌, ◌≤◌, ◌<◌}
 use mathlib.Core.Path.{◌≡◌, refl, sym, ap, ap₂, ◌∙◌}
 use mathlib.Core.Bool.{Bool, false}
-use mathlib.Core.List.{List, [], ◌∷◌, ◌++◌, append-nil}
+use mathlib.Core.List.{List, [], ◌∷◌, ◌++◌, append-nil, append_assoc}
 use native.Mathlib.Omega.{arith}
 use native.Mathlib.Nat.{zero-add, le_refl, mod-lt, zero-lt-suc}
-use native.Mathlib.Numerals.{add-one}
-use lib.ListN.{length, get_or, set, take, drop, length-append}
+use borrow.Rule.Slice.PartMut.{put_mid}
+use lib.ListN.{length, get_or, take, drop, length-append}
 use lib.Seq.{sets, length-sets, sets-eq, take-suc, take_all, length-take-le, drop-length}
-use Rattle.bits.specs.Bits.{word}
+use Rattle.std.proofs.lemmas.Slice.{put_mid-paste}
+use Rattle.std.specs.Int.{w32, to_le_bytes}
 use Rattle.bits.specs.Rows.{Rows, cells_of}
-use Rattle.bits.proofs.Laws.{bit_shr, bit_mod, word_is, same_word}
+use Rattle.bits.proofs.Laws.{bit_shr, bit_mod, word_is}
 use Rattle.bits.proofs.Cells.{cell_at, cells_length}
 use Rattle.state.proofs.Stores.{sets_append}
 use Rattle.records.specs.Record.{byte_of, bytes_of_places}
 use Rattle.records.proofs.Places.{bytes_long, byte_at, bytes_append}
-use Rattle.record_writer.specs.Laying.{bit_from, laid}
+use Rattle.record_writer.specs.Laying.{laid}
 
--- eight bits of a row, as the machine computes them
-pub byte_is : (row from : ℕ) → (row / 2 ^ from) % 256 ≡ word 8 (bit_from row from)
-byte_is row from = word_is 8 ((row / 2 ^ from) % 256) _ (mod-lt (row / 2 ^ from) (zero-lt-suc 255)) (λ k h. bit_mod 8 (row / 2 ^ from) k h ∙ bit_shr row from k)
-
--- byte q of row i
-row_byte : (rows : Rows) (i q from : ℕ) → from ≡ q * 8 → q < 4 → word 8 (bit_from (get_or rows i 0) from) ≡ byte_of (cells_of rows) (i * 4 + q)
+-- byte q of row i, as the machine computes it
+row_byte : (rows : Rows) (i q from : ℕ) → from ≡ q * 8 → q < 4 → get_or rows i 0 / 2 ^ from % 256 ≡ byte_of (cells_of rows) (i * 4 + q)
 row_byte rows i q from e h =
-    same_word 8 _ _
+    word_is 8 (get_or rows i 0 / 2 ^ from % 256) _ (mod-lt (get_or rows i 0 / 2 ^ from) (zero-lt-suc 255))
     (λ k l.
     let at : i * 32 + (from + k) ≡ (i * 4 + q) * 8 + k = omega arith in
-    sym (ap (λ (m : ℕ). get_or (cells_of rows) m false) (sym at) ∙ cell_at rows i (from + k) (omega arith)))
+    bit_mod 8 (get_or rows i 0 / 2 ^ from) k l ∙ bit_shr (get_or rows i 0) from k
+    ∙ sym (ap (λ (m : ℕ). get_or (cells_of rows) m false) (sym at) ∙ cell_at rows i (from + k) (omega arith)))
 
 pub laid_length : (b : List ℕ) (at : ℕ) (rows : Rows) → length (laid b at rows) ≡ length b
 unfolding laid
@@ -47,69 +45,52 @@ module _ (b : List ℕ) (at : ℕ) (rows : Rows) where
   pub laid_none : Laid 0 b
   laid_none = record { bytes = refl }
 
-  -- one byte more
-  one_more : (m v : ℕ) (l : List ℕ) → m < length rows * 4 → v ≡ byte_of (cells_of rows) m → Laid m l → Laid (m + 1) (set l (at + m) v)
-  one_more m v l h e t =
-      let long : length all ≡ length rows * 4 = bytes_long (length rows * 4) (cells_of rows) in
-      let inside : m < length all = omega arith in
-      let front : length (take m all) ≡ m = length-take-le m all (omega arith) in
-      let next : take (m + 1) all ≡ take m all ++ (get_or all m 0 ∷ []) = ap (λ (k : ℕ). take k all) (add-one m) ∙ take-suc all m 0 inside in
-      record {
-        bytes =
-            ap₂ (λ (x : List ℕ) (y : ℕ). set x (at + m) y) t.bytes (e ∙ sym (byte_at (length rows * 4) (cells_of rows) m h))
-            ∙ ap (λ (k : ℕ). set (sets b at (take m all)) (at + k) (get_or all m 0)) (sym front)
-            ∙ sym (sets_append b at (take m all) (get_or all m 0 ∷ [])) ∙ ap (sets b at) (sym next);
-      }
-
-  -- the count of bytes, and the place of the last, in another form
-  moved : (m n : ℕ) (l : List ℕ) → m ≡ n → Laid m l → Laid n l
-  moved m n l e t = rw e at t
-
-  placed : (i k v : ℕ) (l : List ℕ) (m : ℕ) → i ≡ k → Laid m (set l i v) → Laid m (set l k v)
-  placed i k v l m e t = rw e at t
-
-  -- one row more, by what the calls promise
-  pub laid_more : (i v0 v1 v2 v3 : ℕ) (l : List ℕ) → i < length rows
-      → v0 ≡ word 8 (bit_from (get_or rows i 0) 0) → v1 ≡ word 8 (bit_from (get_or rows i 0) 8) → v2 ≡ word 8 (bit_from (get_or rows i 0) 16) → v3 ≡ word 8 (bit_from (get_or rows i 0) 24)
-      → Laid (i * 4) l
-      → Laid ((i + 1) * 4) (set (set (set (set l (at + i * 4) v0) (at + i * 4 + 1) v1) (at + i * 4 + 2) v2) (at + i * 4 + 3) v3)
-  laid_more i v0 v1 v2 v3 l h e0 e1 e2 e3 t = moved (i * 4 + 3 + 1) ((i + 1) * 4) l4 (omega arith) (placed (at + (i * 4 + 3)) (at + i * 4 + 3) v3 l3 _ (omega arith) fourth)
-    where
-      l1 : List ℕ
-      l1 = set l (at + i * 4) v0
-
-      l2 : List ℕ
-      l2 = set l1 (at + i * 4 + 1) v1
-
-      l3 : List ℕ
-      l3 = set l2 (at + i * 4 + 2) v2
-
-      l4 : List ℕ
-      l4 = set l3 (at + i * 4 + 3) v3
-
-      zeroth : i * 4 ≡ i * 4 + 0
-      zeroth = omega arith
-
-      first : Laid (i * 4 + 1) l1
-      first = one_more (i * 4) v0 l (omega arith) (e0 ∙ row_byte rows i 0 0 refl (omega arith) ∙ ap (byte_of (cells_of rows)) (sym zeroth)) t
-
-      second : Laid (i * 4 + 2) l2
-      second =
-          moved (i * 4 + 1 + 1) (i * 4 + 2) l2 (omega arith)
-          (placed (at + (i * 4 + 1)) (at + i * 4 + 1) v1 l1 (i * 4 + 1 + 1) (omega arith)
-          (one_more (i * 4 + 1) v1 l1 (omega arith) (e1 ∙ row_byte rows i 1 8 refl (omega arith)) first))
-
-      third : Laid (i * 4 + 3) l3
-      third =
-          moved (i * 4 + 2 + 1) (i * 4 + 3) l3 (omega arith)
-          (placed (at + (i * 4 + 2)) (at + i * 4 + 2) v2 l2 (i * 4 + 2 + 1) (omega arith)
-          (one_more (i * 4 + 2) v2 l2 (omega arith) (e2 ∙ row_byte rows i 2 16 refl (omega arith)) second))
-
-      fourth : Laid (i * 4 + 3 + 1) (set l3 (at + (i * 4 + 3)) v3)
-      fourth = one_more (i * 4 + 3) v3 l3 (omega arith) (e3 ∙ row_byte rows i 3 24 refl (omega arith)) third
-
-  pub laid_as_long : (m : ℕ) (l : List ℕ) → Laid m l → length l ≡ length b
+  laid_as_long : (m : ℕ) (l : List ℕ) → Laid m l → length l ≡ length b
   laid_as_long m l t = ap length t.bytes ∙ length-sets b at (take m all)
+
+  -- one byte more, in front of others
+  one_more : (m : ℕ) (rest : List ℕ) → m < length all → take (suc m) all ++ rest ≡ take m all ++ (get_or all m 0 ∷ rest)
+  one_more m rest h = ap (λ (x : List ℕ). x ++ rest) (take-suc all m 0 h) ∙ append_assoc (take m all) (get_or all m 0 ∷ []) rest
+
+  module _ (i : ℕ) (h : i < length rows) where
+    -- the four bytes of row i
+    abbrev four : List ℕ
+    four = get_or all (i * 4) 0 ∷ get_or all (suc (i * 4)) 0 ∷ get_or all (suc (suc (i * 4))) 0 ∷ get_or all (suc (suc (suc (i * 4)))) 0 ∷ []
+
+    four_more : take ((i + 1) * 4) all ≡ take (i * 4) all ++ four
+    four_more =
+        let long : length all ≡ length rows * 4 = bytes_long (length rows * 4) (cells_of rows) in
+        let end : (i + 1) * 4 ≡ suc (suc (suc (suc (i * 4)))) = omega arith in
+        ap (λ (k : ℕ). take k all) end ∙ sym (append-nil (take (suc (suc (suc (suc (i * 4))))) all))
+        ∙ one_more (suc (suc (suc (i * 4)))) _ (omega arith) ∙ one_more (suc (suc (i * 4))) _ (omega arith)
+        ∙ one_more (suc (i * 4)) _ (omega arith) ∙ one_more (i * 4) _ (omega arith)
+
+    byte_there : (q from k : ℕ) → from ≡ q * 8 → q < 4 → k ≡ i * 4 + q → get_or rows i 0 / 2 ^ from % 256 ≡ get_or all k 0
+    byte_there q from k e g f =
+        row_byte rows i q from e g ∙ sym (ap (λ (p : ℕ). get_or all p 0) f ∙ byte_at (length rows * 4) (cells_of rows) (i * 4 + q) (omega arith))
+
+    four_is : to_le_bytes w32 (get_or rows i 0) ≡ four
+    four_is =
+        let low : get_or rows i 0 % 256 ≡ get_or all (i * 4) 0 = omega (arith, byte_there 0 0 (i * 4) refl (omega arith) (omega arith)) in
+        let second = byte_there 1 8 (suc (i * 4)) refl (omega arith) (omega arith) in
+        let third = byte_there 2 16 (suc (suc (i * 4))) refl (omega arith) (omega arith) in
+        let high = byte_there 3 24 (suc (suc (suc (i * 4)))) refl (omega arith) (omega arith) in
+        λ j. low j ∷ second j ∷ third j ∷ high j ∷ []
+
+    -- one row more, written over a part of the buffer
+    pub laid_more : (k : ℕ) (l ys : List ℕ) → k ≡ 4 → at + length rows * 4 ≤ length b → ys ≡ to_le_bytes w32 (get_or rows i 0) → Laid (i * 4) l
+        → Laid ((i + 1) * 4) (put_mid (at + i * 4) k l ys)
+    laid_more k l ys f room e t =
+        let long : length all ≡ length rows * 4 = bytes_long (length rows * 4) (cells_of rows) in
+        let front : length (take (i * 4) all) ≡ i * 4 = length-take-le (i * 4) all (omega arith) in
+        let inside : at + i * 4 + 4 ≤ length l = omega (arith, laid_as_long (i * 4) l t) in
+        record {
+          bytes =
+              put_mid-paste (at + i * 4) k l ys four 4 (e ∙ four_is) (sym f) refl
+              ∙ sym (sets-eq four l (at + i * 4) inside)
+              ∙ ap₂ (λ (x : List ℕ) (m : ℕ). sets x (at + m) four) t.bytes (sym front)
+              ∙ sym (sets_append b at (take (i * 4) all) four) ∙ ap (sets b at) (sym four_more);
+        }
 
   pub laid_all : (i : ℕ) (l : List ℕ) → length rows ≤ i → Laid (i * 4) l → l ≡ laid b at rows
   unfolding laid

@@ -37,6 +37,6 @@ pub returns : goal.returns
 unfolding site
 returns c =
     let bytes = c.args.bytes.now in
-    by_fields bytes c.rows_1.ensures c.rows_1-2.ensures c.rows_2.ensures c.rows_32.ensures
-    c.rows_64.ensures c.rows_32-2.ensures c.rows_64-2.ensures c.rows_64-3.ensures
+    by_fields bytes c.rows.ensures c.rows-2.ensures c.rows-3.ensures c.rows-4.ensures
+    c.rows-5.ensures c.rows-6.ensures c.rows-7.ensures c.rows-8.ensures
     ∙ sym (record_state bytes (is_true (is_record bytes) (every_string bytes c.if-bytes-ne-SIZE.false (λ k. search rules))))
