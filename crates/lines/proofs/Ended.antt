@@ -1,34 +1,48 @@
 -- The first line of some bytes.
---     first_ended, first_unended                                         the first byte 10 ends it, or none does
+--     first_ended, first_parted, first_unended                           the first byte 10 ends it, or none does
 --     first_line_number, no_line, first_line, first_size, lines_at_most  the claims
 -- Assumes nothing.
-use Prim.Native.Nat.{ℕ, zero, suc, ◌≤◌, ◌<◌}
+use Prim.Native.Nat.{ℕ, zero, suc, ◌+◌, ◌≤◌, ◌<◌}
 use mathlib.Core.Path.{◌≡◌, refl, sym, ap, ◌∙◌}
 use mathlib.Core.List.{List, [], ◌∷◌, ◌++◌}
+use native.Mathlib.Numerals.{add-one}
 use native.Mathlib.Omega.{arith}
 use native.Mathlib.Decide.{dec_lt}
 use borrow.Author.Tests.{lt-ltb, le-ltb}
 use lib.ListN.{length, take, drop, length-append, length-drop}
 use lib.Seq.{drop-length, take-append_seam}
-use Rattle.lines.specs.Lines.{line_number, newline, space, parts, line_of, lines_of, index, first, first_line_of}
+use Rattle.lines.specs.Lines.{Line, line_number, newline, space, parts, line_of, lines_of, index, first, first_line_of}
 use Rattle.output.specs.Decimal.{decimal}
+use Rattle.std.proofs.Common.{Some, None}
+use Rattle.lines.specs.Digits.{Lacks}
+use Rattle.lines.specs.declared.First.{First}
 use Rattle.lines.specs.Claims.{text_of, ReadableFirst, FirstLineNumber}
 use Rattle.lines.specs.Claims.{NoLine}
 use Rattle.lines.specs.Laws.{FirstLine, Sized, FirstSize, LinesAtMost}
-use Rattle.lines.specs.declared.Line.{Line}
-use Rattle.lines.specs.declared.Line.TheVariants.{Unreadable, Readable}
-use Rattle.lines.proofs.Parts.{index_most, index_past, parts_found, parts_whole, parts_more, join, join_parts}
+use Rattle.lines.proofs.Parts.{index_most, index_past, divided, parts_found, parts_whole, parts_more}
 use Rattle.lines.proofs.Words.{decimal_lacks}
 use Rattle.lines.proofs.Texts.{readable_exactly}
 
 module _ (bytes : List ℕ) (i : ℕ) (e : i ≡ index newline bytes) where
-  pub first_ended : i < length bytes → first_line_of bytes ≡ first (line_of (take i bytes)) (suc i)
+  first_ended : i < length bytes → first_line_of bytes ≡ first (line_of (take i bytes)) (suc i)
   unfolding first_line_of
   first_ended h = rw (← e, lt-ltb i (length bytes) h) refl
 
-  pub first_unended : length bytes ≤ i → first_line_of bytes ≡ first Unreadable (length bytes)
+  pub first_unended : length bytes ≤ i → first_line_of bytes ≡ first None (length bytes)
   unfolding first_line_of
   first_unended h = rw (← e, le-ltb i (length bytes) h) refl
+
+-- a text that byte 10 ends, with what stands behind it
+pub first_parted : (bytes text rest : List ℕ) → bytes ≡ text ++ (newline ∷ rest) → Lacks newline text
+    → first (line_of text) (length text + 1) ≡ first_line_of bytes
+unfolding index
+first_parted bytes text rest e lacks =
+    let all : List ℕ = text ++ (newline ∷ rest) in
+    let at : length text ≡ index newline all = omega (arith, index_past newline text (newline ∷ rest) lacks) in
+    let inside : length text < length all = omega (arith, length-append text (newline ∷ rest)) in
+    rw (e, add-one (length text))
+    (sym (first_ended all (length text) at inside
+    ∙ ap (λ (w : List ℕ). first (line_of w) (suc (length text))) (take-append_seam text (newline ∷ rest))))
 
 -- ---- the number of the first line
 -- two words that lack byte 10, with a space between, lack it
@@ -45,14 +59,6 @@ text_lacks c u a b =
     lacks : (n : ℕ) → index newline (decimal n) ≡ length (decimal n)
     lacks = decimal_lacks newline (omega arith)
 
--- the first line of a text that byte 10 ends
-line_of_text : (w rest : List ℕ) → index newline w ≡ length w → (first_line_of (w ++ newline ∷ rest)).line ≡ line_of w
-unfolding index
-line_of_text w rest e =
-    let at : length w ≡ index newline (w ++ newline ∷ rest) = omega (arith, index_past newline w (newline ∷ rest) e) in
-    let inside : length w < length (w ++ newline ∷ rest) = omega (arith, length-append w (newline ∷ rest)) in
-    rw (first_ended (w ++ newline ∷ rest) (length w) at inside, take-append_seam w (newline ∷ rest)) refl
-
 -- the text in front of the first byte 10, and what stands behind it
 module _ (bytes : List ℕ) (h : index newline bytes < length bytes) where
   abbrev front : List ℕ
@@ -61,30 +67,21 @@ module _ (bytes : List ℕ) (h : index newline bytes < length bytes) where
   abbrev behind : List ℕ
   behind = drop (suc (index newline bytes)) bytes
 
-  ended_text : bytes ≡ front ++ newline ∷ behind
-  unfolding join
-  ended_text =
-      let more = parts_more newline behind in
-      let whole : join newline (more.0 ∷ more.1) ≡ behind =
-      ap (join newline) (sym more.2) ∙ join_parts newline behind in
-      sym (join_parts newline bytes) ∙ ap (join newline) (parts_found newline bytes h ∙ ap (front ∷◌) more.2)
-      ∙ ap (λ (l : List ℕ). front ++ newline ∷ l) whole
-
   -- a line in front of byte 10 is unreadable, or is so written
   unread : (ReadableFirst bytes → ⊥) → (line : Line) → line_of front ≡ line → line_number line ≡ 13
-  unread none Unreadable e = refl
-  unread none (Readable c u a b) e =
-      let w = (readable_exactly front c u a b).0 e in
+  unread none None e = refl
+  unread none (Some x) e =
+      let w = (readable_exactly front x.code x.activator x.a x.b).0 e in
       absurd
       (none
       (record {
-        code = c;
-        activator = u;
-        first = a;
-        second = b;
+        code = x.code;
+        activator = x.activator;
+        first = x.a;
+        second = x.b;
         rest = behind;
         below = w.below;
-        text = ended_text ∙ ap (◌++ newline ∷ behind) w.text;
+        text = divided newline bytes h ∙ ap (◌++ newline ∷ behind) w.text;
       }))
 
 pub first_line_number : FirstLineNumber
@@ -96,8 +93,8 @@ first_line_number bytes = record { readable = read; unreadable = λ none. go non
     read : ReadableFirst bytes → line_number (first_line_of bytes).line ≡ 0
     read w =
         let lacks = text_lacks w.code w.activator w.first w.second in
-        rw (w.text, line_of_text (text_of _ _ _ _) w.rest lacks)
-        (ap line_number ((readable_exactly _ _ _ _ _).1 (record { below = w.below; text = refl })))
+        ap (λ (f : First). line_number f.line) (sym (first_parted bytes (text_of _ _ _ _) w.rest w.text lacks))
+        ∙ (ap line_number ((readable_exactly _ _ _ _ _).1 (record { below = w.below; text = refl })))
 
     go : (ReadableFirst bytes → ⊥) → Dec (i < length bytes) → line_number (first_line_of bytes).line ≡ 13
     go none (yes h) = rw (first_ended bytes i refl h) (unread bytes h none _ refl)

@@ -1,22 +1,28 @@
 -- The parts of some bytes, by the place of the first separator. A word lacks the separator where that place is its length.
 --     index_most                             the place is no more than the length
 --     index_past                             a word that lacks it is passed over
---     index_met, index_next, index_end       the place by a walk of the bytes: at the separator, past another byte, and at the end
+--     parted, none_parted                    the bytes in front of the first separator and those behind it, or none
+--     part_from                              the bytes from a place on
 --     parts_found, parts_whole, parts_word   the first part
 --     parts_more                             there is one
 --     join, join_parts                       the parts, with the separator between, are the bytes
 -- Assumes nothing.
-use Prim.Native.Nat.{ℕ, suc, ◌+◌, ◌≤◌, ◌<◌}
-use mathlib.Core.Path.{◌≡◌, refl, sym, ap, ap₂, ◌∙◌}
+use Prim.Native.Nat.{ℕ, suc, ◌+◌, ◌-◌, ◌≤◌, ◌<◌}
+use mathlib.Core.Path.{◌≡◌, refl, sym, ap, ap₂, subst, ◌∙◌}
 use mathlib.Core.Bool.{Bool, true, false, cond}
 use mathlib.Core.List.{List, [], ◌∷◌, ◌++◌}
-use native.Mathlib.Numerals.{add-one}
+use native.Mathlib.Numerals.{add-one, one-add}
 use native.Mathlib.Omega.{arith}
 use native.Mathlib.Decide.{dec_lt}
-use borrow.Author.Tests.{eq-eqb, ne_eqb, eqb-true}
-use lib.Dec.{eqb}
-use lib.ListN.{length, get_or, take, drop}
-use lib.Seq.{drop-cons, drop-length}
+use borrow.Author.Tests.{eq-eqb, eqb-true, ltb-false}
+use lib.Dec.{eqb, ltb, ltb→lt}
+use lib.ListN.{length, take, drop, length-drop}
+use lib.Seq.{take_all}
+use Rattle.std.proofs.Common.{Some, None, position}
+use Rattle.std.specs.List.{position_or_len}
+use Rattle.std.proofs.lemmas.List.Recursion.{is_position_or_len}
+use Rattle.std.proofs.lemmas.Option.{cond_some, none-some}
+use Rattle.state.proofs.Bools.{holds}
 use Rattle.lines.specs.Lines.{onto, parts, index}
 
 module _ (at : ℕ) where
@@ -40,19 +46,48 @@ module _ (at : ℕ) where
       go true rest e = absurd (omega arith)
       go false rest e = let r : index at (w ++ v) ≡ length w + index at v = rest (omega arith) in omega arith
 
-  -- ---- the place by a walk of the bytes
-  module _ (xs : List ℕ) (i : ℕ) (e : index at xs ≡ i + index at (drop i xs)) where
-    pub index_met : i < length xs → get_or xs i 0 ≡ at → i ≡ index at xs
-    unfolding index
-    index_met h met = sym (e ∙ rw (drop-cons xs i 0 h, eq-eqb (get_or xs i 0) at met) (omega arith))
+  -- ---- the bytes in front of the first separator, and those behind it
+  front_lacks : (xs : List ℕ) → index at (take (index at xs) xs) ≡ length (take (index at xs) xs)
+  unfolding index
+  front_lacks [] = refl
+  front_lacks (x ∷ xs) = go (eqb x at) refl (front_lacks xs)
+    where
+      go : (b : Bool) → eqb x at ≡ b → index at (take (index at xs) xs) ≡ length (take (index at xs) xs)
+          → index at (take (cond b 0 (suc (index at xs))) (x ∷ xs)) ≡ length (take (cond b 0 (suc (index at xs))) (x ∷ xs))
+      go true e h = refl
+      go false e h = rw e (ap suc h)
 
-    pub index_next : i < length xs → (get_or xs i 0 ≡ at → ⊥) → index at xs ≡ i + 1 + index at (drop (i + 1) xs)
-    unfolding index
-    index_next h other = e ∙ rw (drop-cons xs i 0 h, ne_eqb (get_or xs i 0) at other, add-one i) (omega arith)
+  pub divided : (xs : List ℕ) → index at xs < length xs → xs ≡ take (index at xs) xs ++ (at ∷ drop (suc (index at xs)) xs)
+  unfolding index
+  divided [] h = absurd (omega arith)
+  divided (x ∷ xs) h = go (eqb x at) refl (divided xs) h
+    where
+      go : (b : Bool) → eqb x at ≡ b → (index at xs < length xs → xs ≡ take (index at xs) xs ++ (at ∷ drop (suc (index at xs)) xs))
+          → cond b 0 (suc (index at xs)) < suc (length xs)
+          → x ∷ xs ≡ take (cond b 0 (suc (index at xs))) (x ∷ xs) ++ (at ∷ drop (suc (cond b 0 (suc (index at xs)))) (x ∷ xs))
+      go true e rest h = ap (λ (y : ℕ). y ∷ xs) (eqb-true x at e)
+      go false e rest h = ap (λ (l : List ℕ). x ∷ l) (rest (omega arith))
 
-    pub index_end : i ≡ length xs → length xs ≡ index at xs
-    unfolding index
-    index_end all = sym (e ∙ rw (all, drop-length xs) (omega arith))
+  place_is : (xs : List ℕ) → position_or_len (λ x. eqb x at) xs ≡ index at xs
+  unfolding index
+  place_is xs = sym (is_position_or_len (index at) (λ x. eqb x at) refl (λ x rest. ap (cond (eqb x at) 0) (sym (one-add (index at rest)))) xs)
+
+  pub parted : (xs : List ℕ) (i : ℕ) → Some i ≡ position (λ x. eqb x at) xs
+      → (xs ≡ take i xs ++ (at ∷ drop (i + 1) xs)) × (index at (take i xs) ≡ length (take i xs))
+  parted xs i e =
+      let found = cond_some (ltb (position_or_len (λ x. eqb x at) xs) (length xs)) _ i (sym e) in
+      let same : index at xs ≡ i = sym (place_is xs) ∙ found.1 in
+      let inside : index at xs < length xs = rw (← (place_is xs)) (ltb→lt _ _ (holds found.0)) in
+      subst (λ (k : ℕ). (xs ≡ take k xs ++ (at ∷ drop (k + 1) xs)) × (index at (take k xs) ≡ length (take k xs))) same
+      (rw (add-one (index at xs)) (divided xs inside), front_lacks xs)
+
+  pub none_parted : (xs : List ℕ) → None ≡ position (λ x. eqb x at) xs → index at xs ≡ length xs
+  none_parted xs e = go (ltb (position_or_len (λ x. eqb x at) xs) (length xs)) refl (sym e)
+    where
+      go : (b : Bool) → ltb (position_or_len (λ x. eqb x at) xs) (length xs) ≡ b
+          → cond b (Some (position_or_len (λ x. eqb x at) xs)) None ≡ None → index at xs ≡ length xs
+      go true t e = absurd (none-some _ (sym e))
+      go false t e = omega (arith, place_is xs, ltb-false _ _ t, index_most xs)
 
   -- ---- the parts
   pub parts_found : (xs : List ℕ) → index at xs < length xs → parts at xs ≡ take (index at xs) xs ∷ parts at (drop (suc (index at xs)) xs)
@@ -115,3 +150,6 @@ module _ (at : ℕ) where
       go true same (p, ps, some) rest =
           ap (λ (l : List (List ℕ)). join ([] ∷ l)) some ∙ ap₂ (λ (y : ℕ) (l : List ℕ). y ∷ l) (sym (eqb-true x at same)) (rw some at rest)
       go false other more rest = join_onto x (parts at xs) ∙ ap (λ (l : List ℕ). x ∷ l) rest
+
+pub part_from : (xs : List ℕ) (i : ℕ) → take (length xs - i) (drop i xs) ≡ drop i xs
+part_from xs i = take_all (length xs - i) (drop i xs) (let left : length (drop i xs) ≡ length xs - i = length-drop i xs in omega arith)

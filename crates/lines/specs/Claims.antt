@@ -1,13 +1,13 @@
 -- What is claimed of words and lines. Each claim is a type, which proofs/Laws.antt inhabits under the claim's name.
-use Rattle.std.specs.Prelude.{ℕ, ◌<◌, ◌≡◌, ◌↔◌, List, [], ◌∷◌, ◌++◌}
+use Rattle.std.specs.Prelude.{ℕ, ◌<◌, ◌≡◌, ◌↔◌, Some, List, [], ◌∷◌, ◌++◌}
+use Rattle.instructions.specs.Instructions.{four_bytes}
 use Rattle.output.specs.Decimal.{decimal}
 use Rattle.lines.specs.Words.{word_number}
 use Rattle.lines.specs.Lines.{line_number, line_of, lines_of, first_line_of}
-use Rattle.lines.specs.declared.Line.TheVariants.{Readable}
 
 -- a word stands for a number 0 to 255 exactly when it is that number's bytes
 abbrev pub NumberExactly : Type 0
-NumberExactly = (word : List ℕ) (n : ℕ) → n < 256 → (word_number word ≡ n) ↔ (word ≡ decimal n)
+NumberExactly = (word : List ℕ) (n : ℕ) → n < 256 → (word_number word ≡ Some n) ↔ (word ≡ decimal n)
 
 -- ---- lines
 -- "four decimal numbers 0 to 255, without leading zeros, one space between": byte 32 is a space
@@ -26,7 +26,7 @@ pub record FourNumbers (line : List ℕ) (c u a b : ℕ) : Type 0 where
 
 -- a line is readable exactly when it is so written, and then says these numbers
 abbrev pub ReadableExactly : Type 0
-ReadableExactly = (text : List ℕ) (c u a b : ℕ) → (line_of text ≡ Readable c u a b) ↔ FourNumbers text c u a b
+ReadableExactly = (text : List ℕ) (c u a b : ℕ) → (line_of text ≡ Some (four_bytes c u a b)) ↔ FourNumbers text c u a b
 
 -- the bytes begin with a line so written, "ended by byte 10"
 pub record ReadableFirst (bytes : List ℕ) : Type 0 where

@@ -5,17 +5,21 @@
 --     lines_of     the lines of an input
 --     line_number  the paper's number for a line
 --     first_line_of the first line, and how many bytes it takes
-use Rattle.std.specs.Prelude.{ℕ, suc, Bool, ◌&&◌, cond, List, [], ◌∷◌, map, eqb, ltb, length, take}
-use Rattle.lines.specs.Words.{no_number, word_number}
-use Rattle.lines.specs.declared.Line.{Line}
-use Rattle.lines.specs.declared.Line.TheVariants.{Unreadable, Readable}
+use Rattle.std.specs.Prelude.{ℕ, suc, cond, Option, Some, None, List, [], ◌∷◌, map, eqb, ltb, length, take}
+use Rattle.instructions.specs.Instructions.{four_bytes}
+use Rattle.instructions.specs.declared.Bytes.{Bytes}
+use Rattle.lines.specs.Words.{word_number}
 use Rattle.lines.specs.declared.First.{First}
+
+-- what a line says, or `None` if it is unreadable
+abbrev pub Line : Type 0
+Line = Option Bytes
 
 -- the paper's number for each case: 13, "unreadable line", and 0 for a line that is readable; the step then gives its
 -- own number
 abbrev pub line_number : Line → ℕ
-line_number Unreadable = 13
-line_number (Readable c u a b) = 0
+line_number None = 13
+line_number (Some bytes) = 0
 
 -- the two bytes that part lines and numbers
 abbrev pub newline : ℕ
@@ -34,18 +38,10 @@ unfoldable pub parts : (at : ℕ) → List ℕ → List (List ℕ)
 parts at [] = [] ∷ []
 parts at (x ∷ rest) = cond (eqb x at) ([] ∷ parts at rest) (onto x (parts at rest))
 
--- "four decimal numbers 0 to 255"
-abbrev pub are_numbers : (c u a b : ℕ) → Bool
-are_numbers c u a b = ltb c no_number && ltb u no_number && ltb a no_number && ltb b no_number
-
--- a line of exactly these is readable
-abbrev pub line_by : List ℕ → Line
-line_by [] = Unreadable
-line_by (c ∷ []) = Unreadable
-line_by (c ∷ u ∷ []) = Unreadable
-line_by (c ∷ u ∷ a ∷ []) = Unreadable
-line_by (c ∷ u ∷ a ∷ b ∷ []) = cond (are_numbers c u a b) (Readable c u a b) Unreadable
-line_by (c ∷ u ∷ a ∷ b ∷ more ∷ rest) = Unreadable
+-- "four decimal numbers 0 to 255": a line of exactly these is readable
+abbrev pub line_by : List (Option ℕ) → Line
+line_by (Some c ∷ Some u ∷ Some a ∷ Some b ∷ []) = Some (four_bytes c u a b)
+line_by others = None
 
 -- what a line says, its byte 10 left out: its parts, "one space between", are the numbers
 unfoldable pub line_of : (text : List ℕ) → Line
@@ -55,7 +51,7 @@ line_of text = line_by (map word_number (parts space text))
 -- that lacks it.
 abbrev pub unended : List ℕ → List Line
 unended [] = []
-unended (x ∷ rest) = Unreadable ∷ []
+unended (x ∷ rest) = None ∷ []
 
 abbrev pub lines_by : List (List ℕ) → List Line
 lines_by [] = []
@@ -80,4 +76,4 @@ unfoldable pub first_line_of : List ℕ → First
 first_line_of bytes =
     cond (ltb (index newline bytes) (length bytes))
     (first (line_of (take (index newline bytes) bytes)) (suc (index newline bytes)))
-    (first Unreadable (length bytes))
+    (first None (length bytes))

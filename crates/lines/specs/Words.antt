@@ -1,7 +1,7 @@
 -- The number that a word stands for (document 01, 'The program PanelRights'): "decimal numbers 0 to 255, without
 -- leading zeros". How a number is written is in crate `output` (Decimal).
-use Rattle.std.specs.Prelude.{ℕ, Bool, true, false, ◌&&◌, List, [], ◌∷◌, eqb}
-use Rattle.state.specs.Below.{first_below}
+use Rattle.std.specs.Prelude.{ℕ, Bool, true, false, ◌&&◌, Option, List, [], ◌∷◌, eqb}
+use Rattle.state.specs.Below.{found_below}
 use Rattle.output.specs.Decimal.{decimal}
 
 -- the same bytes
@@ -19,6 +19,6 @@ is_number word n = same word (decimal n)
 abbrev pub no_number : ℕ
 no_number = 256
 
--- the number that the word stands for, 256 if it stands for none
-unfoldable pub word_number : (word : List ℕ) → ℕ
-word_number word = first_below no_number (is_number word)
+-- the number that the word stands for, if it stands for one
+unfoldable pub word_number : (word : List ℕ) → Option ℕ
+word_number word = found_below no_number (is_number word)

@@ -1,50 +1,44 @@
--- `lines::read_line` meets its contract: the text's numbers are taken from its front, one by one.
+-- `lines::read_line` meets its contract: the text's words are taken from its front, one by one.
 -- Assumes nothing.
-use Prim.Native.Nat.{ℕ}
-use mathlib.Core.Path.{◌≡◌, refl, ◌∙◌}
-use mathlib.Core.List.{◌∷◌}
-use lib.ListN.{take}
-use Rattle.lines.specs.Words.{word_number}
-use Rattle.lines.specs.Lines.{line_of}
-use Rattle.lines.proofs.Texts.{numbers_of, text_whole, text_first, text_four}
+use mathlib.Core.Path.{refl, ◌∙◌}
+use Rattle.std.proofs.Common.{Some, None, []}
+use Rattle.lines.proofs.Texts.{too_few, short_2, short_3, read}
 use Rattle.lines.proofs.read_line.Goals as goal
-use Rattle.lines.proofs.read_line.Goals.{After-behind-second, After-behind-third}
 
--- the first number and the second, each with the text behind it
-first : (c : After-behind-second) (n : ℕ) → let text = c.args.text.now in
-    n ≡ word_number (take c.index-i.result text) → numbers_of text ≡ n ∷ numbers_of c.behind-second.result.now
-first c n = text_first _ _ _ n c.index-i.ensures c.if-text-i.false c.behind-second.ensures
+pub returns-in_err-first : goal.returns-in_err-first
+returns-in_err-first c = c.from_residual.ensures ∙ too_few _ c.in_err-first.ensures
 
-second : (c : After-behind-third) (n : ℕ) → let text = c.behind-second.result.now in
-    n ≡ word_number (take c.index-j.result text) → numbers_of text ≡ n ∷ numbers_of c.behind-third.result.now
-second c n = text_first _ _ _ n c.index-j.ensures c.if-second-j.false c.behind-third.ensures
+pub returns-in_err-second : goal.returns-in_err-second
+returns-in_err-second c = c.from_residual-in_err-second.ensures ∙ short_2 _ _ _ [] [] [] [] c.in_ok-first.ensures c.in_err-second.ensures
 
-pub returns-then-text-i : goal.returns-then-text-i
-unfolding line_of
-returns-then-text-i c = rw (text_whole _ _ c.index-i.ensures c.if-text-i.true) refl
+pub returns-in_err-third : goal.returns-in_err-third
+returns-in_err-third c =
+    c.from_residual-in_err-third.ensures ∙ short_3 _ _ _ _ _ [] [] c.in_ok-first.ensures c.in_ok-second.ensures c.in_err-third.ensures
 
-pub returns-then-second-j : goal.returns-then-second-j
-unfolding line_of
-returns-then-second-j c =
-    let at = goal.at.returns-then-second-j c in
-    rw (first at.After-behind-second _ refl, text_whole _ _ c.index-j.ensures c.if-second-j.true) refl
+pub returns-in_err-number : goal.returns-in_err-number
+returns-in_err-number c =
+    c.from_residual-in_err-number.ensures
+    ∙ read _ _ _ _ _ _ _ c.in_ok-first.ensures c.in_ok-second.ensures c.in_ok-third.ensures None _ _ _ c.in_err-number.ensures refl refl refl
 
-pub returns-then-third-k : goal.returns-then-third-k
-unfolding line_of
-returns-then-third-k c =
-    let at = goal.at.returns-then-third-k c in
-    rw (
-      first at.After-behind-second _ refl,
-      second at.After-behind-third _ refl,
-      text_whole _ _ c.index-k.ensures c.if-third-k.true,
-    ) refl
+pub returns-in_err-number-2 : goal.returns-in_err-number-2
+returns-in_err-number-2 c =
+    c.from_residual-in_err-number-2.ensures
+    ∙ read _ _ _ _ _ _ _ c.in_ok-first.ensures c.in_ok-second.ensures c.in_ok-third.ensures (Some _) None _ _
+    c.in_ok-number.ensures c.in_err-number-2.ensures refl refl
+
+pub returns-in_err-number-3 : goal.returns-in_err-number-3
+returns-in_err-number-3 c =
+    c.from_residual-in_err-number-3.ensures
+    ∙ read _ _ _ _ _ _ _ c.in_ok-first.ensures c.in_ok-second.ensures c.in_ok-third.ensures (Some _) (Some _) None _
+    c.in_ok-number.ensures c.in_ok-number-2.ensures c.in_err-number-3.ensures refl
+
+pub returns-in_err-number-4 : goal.returns-in_err-number-4
+returns-in_err-number-4 c =
+    c.from_residual-in_err-number-4.ensures
+    ∙ read _ _ _ _ _ _ _ c.in_ok-first.ensures c.in_ok-second.ensures c.in_ok-third.ensures (Some _) (Some _) (Some _) None
+    c.in_ok-number.ensures c.in_ok-number-2.ensures c.in_ok-number-3.ensures c.in_err-number-4.ensures
 
 pub returns : goal.returns
 returns c =
-    let at = goal.at.returns c in
-    c.line_by.ensures
-    ∙ text_four _ _ _ _ _ _ _ _
-    (first at.After-behind-second _ c.number_before.ensures)
-    (second at.After-behind-third _ c.number_before-2.ensures)
-    (text_first _ _ _ _ c.index-k.ensures c.if-third-k.false c.behind.ensures c.number_before-3.ensures)
-    c.number.ensures
+    read _ _ _ _ _ _ _ c.in_ok-first.ensures c.in_ok-second.ensures c.in_ok-third.ensures (Some _) (Some _) (Some _) (Some _)
+    c.in_ok-number.ensures c.in_ok-number-2.ensures c.in_ok-number-3.ensures c.in_ok-number-4.ensures
