@@ -29,7 +29,7 @@ use Rattle.relations.proofs.Laws.{member_bit, pair_bit, row_empty}
 use Rattle.soundness.specs.Tests.{named, all_own, all_owned, once, all_defined, some_listed, is_well_formed, disjoint}
 use Rattle.soundness.proofs.Tests.{named_decided, Once, once_decided}
 use Rattle.soundness.proofs.Laws.{some_decided}
-use Rattle.inspection.specs.Parts.{row_named, user_fits, object_fits, user_at, area_at, object_at, well_formed, apart_at}
+use Rattle.inspection.specs.Parts.{row_named, user_fits, object_fits, user_at, area_at, object_at, apart_at}
 
 -- ---- a number of a set of one row, or of the second row of two
 pub member_low : (set : Rows) (i : ℕ) → i < places → member (cells_of set) i ≡ bit (get_or set 0 0) i
@@ -170,11 +170,11 @@ module _ (these those : Rows) (long : length these ≡ 64) where
 
 -- ---- a record
 module _ (s : State) (fits : Fits s) where
-  abbrev areas : ℕ
+  abbrev pub areas : ℕ
   areas = get_or s.areas 0 0
 
   -- users: what they own is listed, and a listed one owns something
-  abbrev user_test : ℕ → Bool
+  abbrev pub user_test : ℕ → Bool
   user_test = user_at s.owners (get_or s.users 0 0) areas
 
   users_by_rows : each_below 32 user_test ≡ (named (cells_of s.owners) (cells_of s.users) (cells_of s.areas) && all_own (cells_of s.users) (cells_of s.owners))
@@ -271,8 +271,8 @@ module _ (s : State) (fits : Fits s) where
           ((of_rows s.exports fits.exports).0 (and_right (object_names s.definitions && object_names s.imports) (object_names s.exports) three) o h))
           (implied (listed o) _ (once_each.0 (and_right (object_names s.definitions && object_names s.imports && object_names s.exports) _ t) o h)))
 
-  abbrev half : ℕ → ℕ → ℕ → Bool
-  half from row = object_at s.definitions s.imports s.exports from (get_or s.objects row 0) areas
+  abbrev pub half : ℕ → ℕ → ℕ → Bool
+  half from row = object_at s from (get_or s.objects row 0) areas
 
   halves : (each_below 32 (half 0 0) && each_below 32 (half 32 1)) ≡ each_below 64 object_test
   halves = ap₂ ◌&&◌ (same_each low) (same_each high) ∙ sym (each_add object_test 32 32)
@@ -310,8 +310,9 @@ module _ (s : State) (fits : Fits s) where
   reordered false de st im ex own owned defined some = refl
 
   -- the whole test
-  pub well_formed_by_rows : well_formed s.users s.areas s.objects s.owners s.definitions s.structure s.imports s.exports ≡ is_well_formed (site s)
-  unfolding site well_formed
+  pub well_formed_by_rows : (each_below 32 user_test && each_below 32 (area_at s.structure areas) && each_below 32 (half 0 0) && each_below 32 (half 32 1)
+      && is_subset areas (word places (has_second (cells_of s.owners))) && not (is_empty areas)) ≡ is_well_formed (site s)
+  unfolding site
   well_formed_by_rows =
       ap (λ (b : Bool). b && is_subset areas (word places (has_second (cells_of s.owners))) && not (is_empty areas))
       (and_assoc (each_below 32 user_test && each_below 32 (area_at s.structure areas)) (each_below 32 (half 0 0)) (each_below 32 (half 32 1)))

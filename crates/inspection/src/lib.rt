@@ -9,8 +9,7 @@ ghost use Rattle.state.specs.Site.{area, members};
 ghost use Rattle.state.specs.Stands.{site};
 ghost use Rattle.soundness.specs.Sound.{NoOwnImport, Sound};
 ghost use Rattle.soundness.specs.Tests.{some_listed, is_well_formed, no_own_import, is_sound};
-ghost use Rattle.inspection.specs.Parts.{row_named, user_fits, object_fits, user_at, area_at, object_at};
-ghost use Rattle.inspection.specs.Parts.{well_formed, apart_at};
+ghost use Rattle.inspection.specs.Parts.{row_named, user_fits, object_fits, user_at, area_at, object_at, apart_at};
 
 use state::State;
 
@@ -65,71 +64,37 @@ fn object_fits(defined: u32, imported: u32, exported: u32, listed: bool, areas: 
 }
 
 // So it is for each of 32 objects, from `from` on; `objects` is their row of the set.
-fn objects_fit<'a>(
-    definitions: &'a [u32; 64],
-    imports: &'a [u32; 64],
-    exports: &'a [u32; 64],
-    from: usize,
-    objects: u32,
-    areas: u32,
-) -> bool
+fn objects_fit(s: &State, from: usize, objects: u32, areas: u32) -> bool
     requires { from ≤ 32 }
-    ensures { result ≡ each_below 32 (object_at definitions.now imports.now exports.now
-        from objects areas) }
+    ensures { result ≡ each_below 32 (object_at s.now from objects areas) }
 {
     let mut fits = true;
     for k in 0..32u8 {
         let o = from + k as usize;
         let listed = bits::is_set(objects, k);
-        fits = fits & object_fits(definitions[o], imports[o], exports[o], listed, areas);
+        fits = fits & object_fits(s.definitions[o], s.imports[o], s.exports[o], listed, areas);
     }
     fits
 }
 
 // Has the record an area at all?
-pub fn has_area(s: State) -> bool
-    ensures { result ≡ some_listed (members (site s) area) }
+pub fn has_area(s: &State) -> bool
+    ensures { result ≡ some_listed (members (site s.now) area) }
 {
     !bits::is_empty(s.areas[0])
 }
 
-// Are the sets and relations consistent and acceptable, with at least one area?
-fn are_well_formed<'a>(
-    users: &'a [u32; 1],
-    areas: &'a [u32; 1],
-    objects: &'a [u32; 2],
-    owners: &'a [u32; 32],
-    definitions: &'a [u32; 64],
-    structure: &'a [u32; 32],
-    imports: &'a [u32; 64],
-    exports: &'a [u32; 64],
-) -> bool
-    ensures { result ≡ well_formed users.now areas.now objects.now owners.now definitions.now structure.now
-        imports.now exports.now }
-{
-    let listed = areas[0];
-    users_fit(owners, users[0], listed)
-        & areas_fit(structure, listed)
-        & objects_fit(definitions, imports, exports, 0, objects[0], listed)
-        & objects_fit(definitions, imports, exports, 32, objects[1], listed)
-        & bits::is_subset(listed, relations::seconds(owners))
-        & !bits::is_empty(listed)
-}
-
 // Is the record consistent and acceptable, with at least one area?
-pub fn is_well_formed(s: State) -> bool
-    ensures { result ≡ is_well_formed (site s) }
+pub fn is_well_formed(s: &State) -> bool
+    ensures { result ≡ is_well_formed (site s.now) }
 {
-    are_well_formed(
-        &s.users,
-        &s.areas,
-        &s.objects,
-        &s.owners,
-        &s.definitions,
-        &s.structure,
-        &s.imports,
-        &s.exports,
-    )
+    let areas = s.areas[0];
+    users_fit(&s.owners, s.users[0], areas)
+        & areas_fit(&s.structure, areas)
+        & objects_fit(s, 0, s.objects[0], areas)
+        & objects_fit(s, 32, s.objects[1], areas)
+        & bits::is_subset(areas, relations::seconds(&s.owners))
+        & !bits::is_empty(areas)
 }
 
 // Is no pair in both relations?
@@ -144,32 +109,22 @@ fn are_disjoint<'a>(these: &'a [u32; 64], those: &'a [u32; 64]) -> bool
 }
 
 // Does no area import an object that it defines? Any content may be asked about.
-pub fn has_no_own_import(s: State) -> bool
-    ensures equation { result ≡ no_own_import (site s) }
-    ensures meaning { T result ↔ NoOwnImport (site s) }
+pub fn has_no_own_import(s: &State) -> bool
+    ensures equation { result ≡ no_own_import (site s.now) }
+    ensures meaning { T result ↔ NoOwnImport (site s.now) }
 {
     are_disjoint(&s.imports, &s.definitions)
 }
 
-// Is the record sound? Any content may be asked about. The arrays are lent to each test, so that no test copies them.
-pub fn is_sound(s: State) -> bool
-    ensures equation { result ≡ is_sound (site s) }
-    ensures meaning { T result ↔ Sound (site s) }
+// Is the record sound? Any content may be asked about.
+pub fn is_sound(s: &State) -> bool
+    ensures equation { result ≡ is_sound (site s.now) }
+    ensures meaning { T result ↔ Sound (site s.now) }
 {
-    if !are_well_formed(
-        &s.users,
-        &s.areas,
-        &s.objects,
-        &s.owners,
-        &s.definitions,
-        &s.structure,
-        &s.imports,
-        &s.exports,
-    ) {
-        return false;
-    }
-    if !are_disjoint(&s.imports, &s.definitions) {
-        return false;
-    }
-    validity::are_valid(&s.definitions, &s.structure, &s.imports, &s.exports)
+    let State {
+        imports,
+        definitions,
+        ..
+    } = s;
+    is_well_formed(s) && are_disjoint(imports, definitions) && validity::is_valid(s)
 }

@@ -1,6 +1,5 @@
 -- `inspection::are_disjoint` meets its contract. The loop's invariant: what is apart so far is whether the first o rows are.
 -- Assumes nothing.
-use Prim.Native.Nat.{◌-◌}
 use mathlib.Core.Path.{sym, ap, ◌∙◌}
 use native.Mathlib.Omega.{arith}
 use Rattle.bits.specs.Bits.{is_empty}

@@ -7,7 +7,7 @@ use Rattle.inspection.specs.Parts.{object_at}
 use Rattle.inspection.proofs.objects_fit.Given as goal
 
 abbrev pub invariant-loop-k : goal.invariant-loop-k
-invariant-loop-k l = (l.k ≤ 32) × (l.fits ≡ each_below l.k (object_at l.definitions l.imports l.exports l.from l.objects l.areas))
+invariant-loop-k l = (l.k ≤ 32) × (l.fits ≡ each_below l.k (object_at l.s l.from l.objects l.areas))
 
 abbrev pub decreases-loop-k : goal.decreases-loop-k
 decreases-loop-k l = 32 - l.k

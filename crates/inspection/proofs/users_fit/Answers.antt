@@ -1,6 +1,6 @@
 -- `inspection::users_fit` meets its contract. The loop's invariant: what fits so far is whether each of the first u users does.
 -- Assumes nothing.
-use Prim.Native.Nat.{ℕ, ◌-◌}
+use Prim.Native.Nat.{ℕ}
 use mathlib.Core.Path.{◌≡◌, sym, ap, ◌∙◌}
 use mathlib.Core.Bool.{Bool}
 use native.Mathlib.Omega.{arith}
