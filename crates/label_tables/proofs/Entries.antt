@@ -3,11 +3,13 @@
 --     text_at_lem                  and of each byte of their texts and filler
 --     text_in_range, filler_zero   what a byte of a text is, and one of its filler
 --     entry_long, entry_byte       the text of an entry: how long it is, and its bytes
+--     found_at, found_none         the entry of an area, if there is one
+--     found_there, found_nowhere   and what is known where one was found, or none
 --     text_there, text_none        the text of an area's label, and without one
 -- Assumes nothing.
 use Prim.Native.Nat.{ℕ, suc, ◌+◌, ◌-◌, ◌*◌, ◌≤◌, ◌<◌}
 use mathlib.Core.Path.{◌≡◌, refl, subst, ◌∙◌}
-use mathlib.Core.Bool.{Bool, ◌&&◌}
+use mathlib.Core.Bool.{Bool, true, false, ◌&&◌, cond}
 use mathlib.Core.List.{List, []}
 use native.Mathlib.Numerals.{add-one}
 use native.Mathlib.Omega.{arith}
@@ -15,12 +17,13 @@ use borrow.Author.Tests.{lt-ltb, le-ltb}
 use lib.Dec.{T, leb, ltb, eqb, ltb→lt, leb→le, eqb→eq}
 use lib.ListN.{length, get_or, drop, length-take, length-drop}
 use lib.Seq.{get_or-take, get_or-drop}
+use Rattle.std.specs.Prelude.{Some, None}
 use Rattle.state.specs.Below.{each_below}
 use Rattle.state.proofs.Bools.{and_left, and_right}
 use Rattle.state.proofs.Below.{each_at}
 use Rattle.state.proofs.Ascending.{Ascends, ascends_by}
 use Rattle.label_tables.specs.Labels.{label_size, text_size, label_count, label_area, label_length, text_byte, byte_fits}
-use Rattle.label_tables.specs.Labels.{label_fits, labels_fit, label_ascends, labels_ascend, label_index}
+use Rattle.label_tables.specs.Labels.{label_fits, labels_fit, label_ascends, labels_ascend, label_index, label_found}
 use Rattle.label_tables.specs.Texts.{text_fits}
 use Rattle.label_tables.specs.Labels.{entry_text, label_of}
 
@@ -83,6 +86,28 @@ entry_long t k fit h =
 pub entry_byte : (t : List ℕ) (k i : ℕ) → i < label_length t k → get_or (entry_text t k) i 0 ≡ text_byte t k i
 entry_byte t k i b =
     get_or-take (label_length t k) (drop (k * label_size + 2) t) i 0 b ∙ get_or-drop (k * label_size + 2) t i 0
+
+-- ---- the entry of an area, if there is one
+pub found_at : (t : List ℕ) (a k : ℕ) → k < label_count t → label_index t a ≡ k → label_found t a ≡ Some k
+found_at t a k h e = rw (e, lt-ltb k (label_count t) h) refl
+
+pub found_none : (t : List ℕ) (a : ℕ) → label_index t a ≡ label_count t → label_found t a ≡ None
+found_none t a e = rw (le-ltb (label_index t a) (label_count t) (omega arith)) refl
+
+-- and what is known where one was found, or none
+pub found_there : (t : List ℕ) (a k : ℕ) → Some k ≡ label_found t a → (k ≡ label_index t a) × (ltb (label_index t a) (label_count t) ≡ true)
+found_there t a k e = go (ltb (label_index t a) (label_count t)) e
+  where
+    go : (b : Bool) → Some k ≡ cond b (Some (label_index t a)) None → (k ≡ label_index t a) × (b ≡ true)
+    go true q = (cc, refl)
+    go false q = cc
+
+pub found_nowhere : (t : List ℕ) (a : ℕ) → None ≡ label_found t a → ltb (label_index t a) (label_count t) ≡ false
+found_nowhere t a e = go (ltb (label_index t a) (label_count t)) e
+  where
+    go : (b : Bool) → None ≡ cond b (Some (label_index t a)) None → b ≡ false
+    go true q = cc
+    go false q = refl
 
 -- ---- the text of an area's label
 pub text_there : (t : List ℕ) (a : ℕ) → label_index t a < label_count t →

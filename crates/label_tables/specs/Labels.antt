@@ -2,10 +2,10 @@
 -- the text (bytes 32 to 126), then zeros." A table is the list of its own bytes.
 --     label_count, label_area, label_length     how many entries there are, and the first two bytes of an entry
 --     labels_fit, labels_ascend, labels_listed  what refusals 26, 27 and 28 ask of the table
---     label_index                               which entry is that of an area
+--     label_index, label_found                  which entry is that of an area
 --     entry_text, label_of                      the text of an entry, and of an area's label
 --     LawfulBlock                               a table that has no partial entry, and passes 26 and 27
-use Rattle.std.specs.Prelude.{ℕ, ◌+◌, ◌-◌, ◌*◌, ◌/◌, ◌≡◌, Bool, ◌&&◌, cond, List, [], T, eqb, ltb, leb, length, get_or, take, drop}
+use Rattle.std.specs.Prelude.{ℕ, ◌+◌, ◌-◌, ◌*◌, ◌/◌, ◌≡◌, Bool, ◌&&◌, cond, List, [], T, eqb, ltb, leb, length, get_or, take, drop, Option, Some, None}
 use Rattle.state.specs.Below.{each_below, first_below}
 use Rattle.state.specs.Cells.{Members, member}
 use Rattle.state.specs.Site.{area, limit}
@@ -64,6 +64,10 @@ labels_listed areas t = each_below (label_count t) (label_listed areas t)
 -- ---- the entry of area a: the first with that area, or the count if there is none
 unfoldable pub label_index : List ℕ → (a : ℕ) → ℕ
 label_index t a = first_below (label_count t) (λ k. eqb (label_area t k) a)
+
+-- the same, where there is one
+abbrev pub label_found : List ℕ → (a : ℕ) → Option ℕ
+label_found t a = cond (ltb (label_index t a) (label_count t)) (Some (label_index t a)) None
 
 -- ---- the text of area a's label
 -- the text of entry k: so many bytes from its third on

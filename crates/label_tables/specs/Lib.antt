@@ -2,7 +2,7 @@
 -- (Labels), and what is claimed of it (Claims). Laws has what the layers above use, Texts what this crate's own
 -- functions promise each other.
 --     label_tables::all_fit, all_ascend, all_listed    labels_fit, labels_ascend, labels_listed
---     label_tables::index_of                           label_index
+--     label_tables::index_of                           label_found
 pub mod Labels
 pub mod Claims
 pub mod Laws

@@ -5,7 +5,7 @@
 ghost use Rattle.std.specs.Prelude.{◌≡◌, ◌+◌, ◌*◌, ◌≤◌, length};
 ghost use Rattle.state.specs.Below.{each_below};
 ghost use Rattle.bits.specs.Rows.{cells_of};
-ghost use Rattle.label_tables.specs.Labels.{label_fits, labels_fit, labels_ascend, labels_listed, label_index};
+ghost use Rattle.label_tables.specs.Labels.{label_fits, labels_fit, labels_ascend, labels_listed, label_found};
 ghost use Rattle.label_tables.specs.Texts.{text_fits};
 
 use state::State;
@@ -86,15 +86,15 @@ pub fn all_listed<'a>(areas: &'a [u32], table: &'a [u8]) -> bool
     true
 }
 
-// The entry of the area, or the count of entries if there is none. The area is any number: 256 is not 0.
-pub fn index_of(table: &[u8], area: u32) -> usize
-    ensures { result ≡ label_index table.now area }
+// The entry of the area, if there is one. The area is any number: 256 is not 0.
+pub fn index_of(table: &[u8], area: u32) -> Option<usize>
+    ensures { result ≡ label_found table.now area }
 {
     let entries = table.len() / LABEL_SIZE;
     for k in 0..entries {
         if table[k * LABEL_SIZE] as u32 == area {
-            return k;
+            return Some(k);
         }
     }
-    entries
+    None
 }

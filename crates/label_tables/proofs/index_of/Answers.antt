@@ -5,14 +5,14 @@ use native.Mathlib.Omega.{arith}
 use borrow.Author.Tests.{eq-eqb, ne_eqb}
 use Rattle.state.proofs.Below.{first_is}
 use Rattle.label_tables.specs.Labels.{label_index}
+use Rattle.label_tables.proofs.Entries.{found_at, found_none}
 use Rattle.label_tables.proofs.Laws.{label_none}
 use Rattle.label_tables.proofs.index_of.Goals as goal
 
 pub returns-then-table-k : goal.returns-then-table-k
 unfolding label_index
 returns-then-table-k c =
-    let t = c.args.table.now in
-    sym (first_is _ _ c.loop-k.k (omega arith) (eq-eqb _ _ c.if-table-k.true) (λ m h. ne_eqb _ _ (c.loop-k.invariant.1 m h)))
+    sym (found_at _ _ c.loop-k.k (omega arith) (first_is _ _ c.loop-k.k (omega arith) (eq-eqb _ _ c.if-table-k.true) (λ m h. ne_eqb _ _ (c.loop-k.invariant.1 m h))))
 
 pub returns : goal.returns
-returns c = sym (label_none _ _ (λ m h. c.loop-k.invariant.1 m (omega arith)))
+returns c = sym (found_none _ _ (label_none _ _ (λ m h. c.loop-k.invariant.1 m (omega arith))))
