@@ -2,7 +2,7 @@
 -- what is claimed of the two (Claims). Laws has what the layers above use, Runs what this crate's own functions promise
 -- each other.
 --     pair_tables::all_fit, all_ascend    pairs_fit, pairs_ascend
---     pair_tables::fill_32, fill_64       with_pairs
+--     pair_tables::fill                   with_pairs
 pub mod Pairs
 pub mod Claims
 pub mod Laws

@@ -91,7 +91,7 @@ fn turned(rows: &mut [u32], at: u8, row: u32, first: u8) -> u32
 
 // Puts each pair of the table into the relation. In an ascending table the pairs of a row stand side by side, so the
 // row is at hand while they come.
-fn fill(rows: &mut [u32], table: &[u8])
+pub fn fill(rows: &mut [u32], table: &[u8])
     ensures { cells_of rows.new ≡ with_pairs table.now (cells_of rows.old) }
 {
     let count = table.len() / PAIR_SIZE;
@@ -105,18 +105,4 @@ fn fill(rows: &mut [u32], table: &[u8])
         row = more;
     }
     store(rows, at, row);
-}
-
-// `fill` for the owner or structure pairs: a field is lent as an array.
-pub fn fill_32(rows: &mut [u32; 32], table: &[u8])
-    ensures { cells_of rows.new ≡ with_pairs table.now (cells_of rows.old) }
-{
-    fill(rows, table);
-}
-
-// `fill` for the definition, import or export pairs.
-pub fn fill_64(rows: &mut [u32; 64], table: &[u8])
-    ensures { cells_of rows.new ≡ with_pairs table.now (cells_of rows.old) }
-{
-    fill(rows, table);
 }
