@@ -16,7 +16,7 @@ use lib.Bits.{bit_and, bit_or, and_shr, or_shr, and_mod, or_mod, shifted_half, s
 use lib.Count.{ones, ones_step, count_trailing_zeros, under}
 use mir.Val.{bool_byte}
 use Rattle.bits.specs.Bits.{bit, places, word_from, word, with_bit, union, intersection, difference, is_empty, is_subset}
-use Rattle.bits.specs.Bits.{size_of, Lowest, lowest_of, lowest, without_lowest, Single, is_single}
+use Rattle.bits.specs.Bits.{size_of, Lowest, lowest_of, lowest, without_lowest, Next, Single, is_single}
 use Rattle.bits.specs.Claims.{EqualBits, BitPast, WordReads, WordFits, WithBitReads, UnionReads, IntersectionReads, DifferenceReads}
 use Rattle.bits.specs.Claims.{EmptyDecided, SubsetDecided, LowestIsRight, OneLowest, LowestInside, WithoutLowestReads, WithoutLowestLess, SingleDecided}
 
@@ -500,6 +500,10 @@ lowest_inside a ha f = go (dec_lt (lowest a) places)
     go : Dec (lowest a < places) → lowest a < places
     go (yes h) = h
     go (no h) = absurd (f (none_set a ha (λ k l. (lowest_is_right a).none_lower k (omega arith))))
+
+-- the place that a walk takes is one
+pub next_inside : {rest place left : ℕ} → rest < 2 ^ places → Next rest place left → place < places
+next_inside {rest = rest} h n = subst (λ (k : ℕ). k < places) (sym n.place_is) (lowest_inside rest h n.some)
 
 -- the row that a loop over the places of a row is left with, and what makes the loop end
 pub without_lowest_none : (a : ℕ) → a ≡ 0 → a ≡ without_lowest a

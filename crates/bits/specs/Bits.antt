@@ -7,8 +7,9 @@
 --     is_empty, is_subset                  tests; that they decide what their names say is claimed (Claims)
 --     size                                 how many places are in a row
 --     Lowest, lowest, without_lowest       the lowest place in a row, and the row without it
+--     Next, NextPlace                      one step of a walk over the places of a row
 --     Single, is_single                    exactly one place is in a row
-use Rattle.std.specs.Prelude.{ℕ, zero, suc, ◌+◌, ◌*◌, ◌/◌, ◌%◌, ◌^◌, ◌≤◌, ◌<◌, ◌≡◌, Bool, true, false, ◌&&◌, ◌||◌, not, cond, T, eqb}
+use Rattle.std.specs.Prelude.{ℕ, zero, suc, ◌+◌, ◌*◌, ◌/◌, ◌%◌, ◌^◌, ◌≤◌, ◌<◌, ◌≡◌, Bool, true, false, ◌&&◌, ◌||◌, not, cond, T, eqb, Option, Some, None, ◌≢◌}
 
 -- bit k of n is set: n / 2 ^ k is odd
 unfoldable pub bit : ℕ → ℕ → Bool
@@ -79,6 +80,17 @@ lowest a = lowest_of places a
 -- the row without its lowest place; a row without places as it is
 unfoldable pub without_lowest : ℕ → ℕ
 without_lowest a = with_bit a (lowest a) false
+
+-- One step of a walk over the places of a row, the lowest first: from the places that are left it takes the lowest, and
+-- leaves the others; where none is left it ends.
+pub record Next (rest place left : ℕ) : Type 0 where
+  pub some : rest ≢ 0
+  pub place_is : place ≡ lowest rest
+  pub left_is : left ≡ without_lowest rest
+
+abbrev pub NextPlace : (rest : ℕ) → Option ℕ → (left : ℕ) → Type 0
+NextPlace rest (Some place) left = Next rest place left
+NextPlace rest None left = (rest ≡ 0) × (left ≡ 0)
 
 -- exactly one place is in the row
 pub record Single (a : ℕ) : Type 0 where

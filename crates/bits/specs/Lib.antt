@@ -4,6 +4,7 @@
 --     bits::union, intersection, difference      union, intersection, difference
 --     bits::is_empty, is_subset, size            is_empty, is_subset, size
 --     bits::lowest, without_lowest               lowest and Lowest, without_lowest
+--     bits::places                               NextPlace, each step of the walk
 --     bits::is_single                            is_single
 pub mod Bits
 pub mod Rows

@@ -1,9 +1,10 @@
 // A row of 32 bits as a set of places 0 to 31.
 #![tactic(auto)]
 
+ghost use Rattle.std.specs.Iterator.{at_most};
 ghost use Rattle.std.specs.Prelude.{◌≡◌};
 ghost use Rattle.bits.specs.Bits.{bit, with_bit, union, intersection, difference, is_empty, is_subset};
-ghost use Rattle.bits.specs.Bits.{size, Lowest, lowest, without_lowest, is_single};
+ghost use Rattle.bits.specs.Bits.{size, Lowest, lowest, without_lowest, NextPlace, is_single};
 
 // How many places there are.
 const PLACES: u8 = 32;
@@ -93,4 +94,36 @@ pub fn is_single(row: u32) -> bool
     ensures { result ≡ is_single row }
 {
     !is_empty(row) & is_empty(without_lowest(row))
+}
+
+// The places of a row that are left to walk, the lowest first: what `places` gives.
+#[derive(Drop)]
+pub struct Walk {
+    pub rest: u32,
+}
+
+// The places of the row, the lowest first.
+pub fn places(row: u32) -> Walk
+    ensures { result.rest ≡ row }
+{
+    Walk { rest: row }
+}
+
+impl Iterator for Walk {
+    type Item = u8;
+
+    ghost next_gives = { λ before place after. NextPlace before.rest place after.rest };
+
+    // The row gets smaller with each place.
+    ghost remaining = { λ left. at_most left.rest };
+
+    #[tactic(auto, using(crate::proofs::Laws::without_lowest_less))]
+    fn next(&mut self) -> Option<u8> {
+        let row = self.rest;
+        if row == 0 {
+            return None;
+        }
+        self.rest = without_lowest(row);
+        Some(lowest(row))
+    }
 }

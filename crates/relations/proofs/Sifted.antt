@@ -9,7 +9,7 @@ use borrow.Author.Tests.{eq-eqb, ne_eqb}
 use lib.Dec.{T}
 use lib.Pow.{pow_pos}
 use lib.ListN.{get_or}
-use Rattle.bits.specs.Bits.{bit, places, intersection, with_bit, is_empty, lowest, without_lowest}
+use Rattle.bits.specs.Bits.{bit, places, intersection, with_bit, is_empty, lowest, without_lowest, Next}
 use Rattle.bits.specs.Rows.{Rows, cells_of}
 use Rattle.bits.proofs.Laws.{bit_zero, word_bit, equal_bits, with_bit_bit, with_bit_fits, intersection_bit, intersection_fits, empty_decided, lowest_is_right, lowest_inside, without_lowest_bit, without_lowest_fits}
 use Rattle.state.specs.Below.{some_below}
@@ -68,8 +68,11 @@ pub record Sifted (rows : Rows) (set within rest out : ℕ) : Type 0 where
   pub each : (j : ℕ) → j < places → (bit out j || (bit rest j && meets rows set j)) ≡ (bit within j && meets rows set j)
 
 module _ (rows : Rows) (set within : ℕ) where
-  pub sifted_none : within < 2 ^ places → Sifted rows set within within 0
-  sifted_none h = record { left = h; fits = pow_pos places; each = λ j l. ap (λ (b : Bool). b || (bit within j && meets rows set j)) (bit_zero j) }
+  all_left : within < 2 ^ places → Sifted rows set within within 0
+  all_left h = record { left = h; fits = pow_pos places; each = λ j l. ap (λ (b : Bool). b || (bit within j && meets rows set j)) (bit_zero j) }
+
+  pub sifted_none : {rest : ℕ} → rest ≡ within → within < 2 ^ places → Sifted rows set within rest 0
+  sifted_none e h = rw e (all_left h)
 
   -- the lowest area: kept where its row meets the set
   here : (o w m : Bool) → (o || (true && m)) ≡ (w && m) → (m || (false && m)) ≡ (w && m)
@@ -81,9 +84,9 @@ module _ (rows : Rows) (set within : ℕ) where
   here o true false e = refl
   here o false false e = refl
 
-  pub sifted_more : (rest out : ℕ) → (rest ≡ 0 → ⊥) → Sifted rows set within rest out
+  without : (rest out : ℕ) → (rest ≡ 0 → ⊥) → Sifted rows set within rest out
       → Sifted rows set within (without_lowest rest) (with_bit out (lowest rest) (meets rows set (lowest rest)))
-  sifted_more rest out some w =
+  without rest out some w =
       record {
         left = without_lowest_fits rest;
         fits = with_bit_fits out (lowest rest) (meets rows set (lowest rest));
@@ -114,6 +117,10 @@ module _ (rows : Rows) (set within : ℕ) where
           (with_bit_bit out low (meets rows set low) j l ∙ ap (λ (b : Bool). cond b (meets rows set low) (bit out j)) (ne_eqb j low ne))
           (without_lowest_bit rest j l ∙ ap (λ (b : Bool). cond b false (bit rest j)) (ne_eqb j low ne))
           ∙ w.each j l
+
+  pub sifted_more : {rest area left out common more : ℕ} {none : Bool} → Next rest area left → common ≡ intersection (get_or rows area 0) set
+      → none ≡ is_empty common → more ≡ with_bit out area (not none) → Sifted rows set within rest out → Sifted rows set within left more
+  sifted_more {rest = rest} {out = out} n ec en em w = rw (n.left_is, em, en, ec, n.place_is) (without rest out n.some w)
 
   pub sifted_all : (rest out : ℕ) → rest ≡ 0 → Sifted rows set within rest out → out ≡ intersection (image (transpose (cells_of rows)) set) within
   sifted_all rest out none w =

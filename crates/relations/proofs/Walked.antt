@@ -10,7 +10,7 @@ use borrow.Author.Tests.{eq-eqb, ne_eqb}
 use lib.Dec.{T}
 use lib.Pow.{pow_pos}
 use lib.ListN.{get_or}
-use Rattle.bits.specs.Bits.{bit, places, union, lowest, without_lowest}
+use Rattle.bits.specs.Bits.{bit, places, union, lowest, without_lowest, Next}
 use Rattle.bits.specs.Rows.{Rows, cells_of}
 use Rattle.bits.proofs.Laws.{bit_zero, word_bit, word_fits, equal_bits, union_bit, union_fits, lowest_is_right, lowest_inside, without_lowest_bit, without_lowest_fits}
 use Rattle.state.specs.Below.{some_below}
@@ -94,12 +94,15 @@ pub record Walked (rows : Rows) (set rest out : ℕ) : Type 0 where
   pub each : (j : ℕ) → j < places → (bit out j || bit (image (cells_of rows) rest) j) ≡ bit (image (cells_of rows) set) j
 
 module _ (rows : Rows) (set : ℕ) where
-  pub walked_none : set < 2 ^ places → Walked rows set set 0
-  walked_none h = record { left = h; fits = pow_pos places; each = λ j l. ap (λ (b : Bool). b || bit (image (cells_of rows) set) j) (bit_zero j) }
+  all_left : set < 2 ^ places → Walked rows set set 0
+  all_left h = record { left = h; fits = pow_pos places; each = λ j l. ap (λ (b : Bool). b || bit (image (cells_of rows) set) j) (bit_zero j) }
 
-  pub walked_more : (rest out : ℕ) → (rest ≡ 0 → ⊥) → Walked rows set rest out
+  pub walked_none : {rest : ℕ} → rest ≡ set → set < 2 ^ places → Walked rows set rest 0
+  walked_none e h = rw e (all_left h)
+
+  without : (rest out : ℕ) → (rest ≡ 0 → ⊥) → Walked rows set rest out
       → Walked rows set (without_lowest rest) (union out (get_or rows (lowest rest) 0))
-  walked_more rest out some w =
+  without rest out some w =
       record {
         left = without_lowest_fits rest;
         fits = union_fits out (get_or rows (lowest rest) 0);
@@ -108,6 +111,10 @@ module _ (rows : Rows) (set : ℕ) where
             ∙ or_assoc (bit out j) (bit (get_or rows (lowest rest) 0) j) (bit (image (cells_of rows) (without_lowest rest)) j)
             ∙ ap (λ (b : Bool). bit out j || b) (sym (image_more rows rest j w.left some l)) ∙ w.each j l;
       }
+
+  pub walked_more : {rest area left out more : ℕ} → Next rest area left → more ≡ union out (get_or rows area 0) → Walked rows set rest out
+      → Walked rows set left more
+  walked_more {rest = rest} {out = out} n e w = rw (n.left_is, e, n.place_is) (without rest out n.some w)
 
   pub walked_all : (rest out : ℕ) → rest ≡ 0 → Walked rows set rest out → out ≡ image (cells_of rows) set
   unfolding image

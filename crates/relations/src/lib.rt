@@ -14,11 +14,7 @@ ghost use Rattle.relations.specs.Turning.{is_mask, even_bit, odd_bit, exchanged}
 pub fn row_of(rows: &[u32], first: u8) -> u32
     ensures { result ≡ get_or rows.now first 0 }
 {
-    let at = first as usize;
-    if rows.len() <= at {
-        return 0;
-    }
-    rows[at]
+    rows.get(first as usize).copied().unwrap_or(0)
 }
 
 // Is the number in the set?
@@ -74,9 +70,8 @@ pub fn seconds(rows: &[u32]) -> u32
     ensures { result ≡ word 32 (has_second (cells_of rows.now)) }
 {
     let mut out: u32 = 0;
-    for i in 0..rows.len() {
-        let more = bits::union(out, rows[i]);
-        out = more;
+    for row in rows {
+        out = bits::union(out, *row);
     }
     out
 }
@@ -92,14 +87,9 @@ pub fn in_column(rows: &[u32], area: u8) -> bool
 pub fn image(rows: &[u32; 32], set: u32) -> u32
     ensures { result ≡ image (cells_of rows.now) set }
 {
-    let mut rest = set;
     let mut out: u32 = 0;
-    while rest != 0 {
-        let area = bits::lowest(rest);
-        let more = bits::union(out, rows[area as usize]);
-        out = more;
-        let others = bits::without_lowest(rest);
-        rest = others;
+    for area in bits::places(set) {
+        out = bits::union(out, rows[area as usize]);
     }
     out
 }
@@ -108,15 +98,10 @@ pub fn image(rows: &[u32; 32], set: u32) -> u32
 pub fn preimage(rows: &[u32; 32], set: u32, within: u32) -> u32
     ensures { result ≡ intersection (image (transpose (cells_of rows.now)) set) within }
 {
-    let mut rest = within;
     let mut out: u32 = 0;
-    while rest != 0 {
-        let area = bits::lowest(rest);
+    for area in bits::places(within) {
         let common = bits::intersection(rows[area as usize], set);
-        let more = bits::with_bit(out, area, !bits::is_empty(common));
-        out = more;
-        let others = bits::without_lowest(rest);
-        rest = others;
+        out = bits::with_bit(out, area, !bits::is_empty(common));
     }
     out
 }

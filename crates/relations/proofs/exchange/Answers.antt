@@ -10,13 +10,11 @@ use Rattle.relations.proofs.exchange.Goals as goal
 
 pub loop-k-preserved : goal.loop-k-preserved
 loop-k-preserved c =
-    let k : ℕ = c.loop-k.k in (
-      omega arith,
-      filled_to _ _ _ _ _ (omega arith)
-          (filled_more _ _ _ (2 * k + 1) _ _ (omega arith) (c.odd_row-odd.ensures ∙ odd_row _ _ _ k)
-          (filled_more _ _ _ (2 * k) _ _ (omega arith) (c.even_row-even.ensures ∙ even_row _ _ _ k) c.loop-k.invariant.1)),
-    )
+    let k : ℕ = c.loop-k.k in
+    filled_to _ _ _ _ _ (omega arith)
+    (filled_more _ _ _ (2 * k + 1) _ _ (omega arith) (c.odd_row-odd.ensures ∙ odd_row _ _ _ k)
+    (filled_more _ _ _ (2 * k) _ _ (omega arith) (c.even_row-even.ensures ∙ even_row _ _ _ k) c.loop-k.invariant))
 
 pub returns : goal.returns
 unfolding exchanged
-returns c = filled_all _ _ _ _ _ (omega arith) c.loop-k.invariant.1
+returns c = filled_all _ _ _ _ _ (omega arith) c.loop-k.invariant

@@ -1,12 +1,9 @@
 -- `relations::exchange` meets its contract. The loop's invariant: the first 2 * k rows are those of the exchange.
 -- Assumes nothing.
-use Prim.Native.Nat.{◌-◌, ◌*◌, ◌≤◌}
+use Prim.Native.Nat.{◌*◌}
 use Rattle.state.proofs.Fill.{Filled}
 use Rattle.relations.specs.Turning.{exchanged_row}
 use Rattle.relations.proofs.exchange.Given as goal
 
 abbrev pub invariant-loop-k : goal.invariant-loop-k
-invariant-loop-k l = (l.k ≤ 16) × Filled (exchanged_row l.block l.mask l.from) 0 32 (2 * l.k) l.to
-
-abbrev pub decreases-loop-k : goal.decreases-loop-k
-decreases-loop-k l = 16 - l.k
+invariant-loop-k l = Filled (exchanged_row l.block l.mask l.from) 0 32 (2 * l.k) l.to

@@ -1,16 +1,16 @@
--- `relations::seconds` meets its contract. The loop's invariant: the places of `out` are those of the first i rows.
+-- `relations::seconds` meets its contract. The loop's invariant: the places of `out` are those of the rows before.
 -- Assumes nothing.
 use mathlib.Core.Path.{sym, subst}
 use native.Mathlib.Omega.{arith}
 use Rattle.relations.proofs.Laws.{Joined, joined_none, joined_more, joined_all}
 use Rattle.relations.proofs.seconds.Goals as goal
 
-pub loop-i-init : goal.loop-i-init
-loop-i-init c = (omega arith, joined_none _)
+pub loop-row-init : goal.loop-row-init
+loop-row-init c = joined_none _
 
-pub loop-i-preserved : goal.loop-i-preserved
-loop-i-preserved c =
-    (omega arith, subst (Joined _ _) (sym c.union-more.ensures) (joined_more _ _ _ c.loop-i.invariant.1))
+pub loop-row-preserved : goal.loop-row-preserved
+loop-row-preserved c =
+    subst (Joined _ _) (sym c.union-out.ensures) (joined_more _ _ _ c.loop-row.invariant)
 
 pub returns : goal.returns
-returns c = joined_all _ _ _ (omega arith) c.loop-i.invariant.1
+returns c = joined_all _ _ _ (omega arith) c.loop-row.invariant
