@@ -1,6 +1,7 @@
 -- A bit that is written to a record is a number written to a set, or a pair to a relation, of its state.
 --     bytes_set           the bytes of places of which one is written
 --     marked, related     a number, or a pair, written to the bytes and to the state
+--     Holds               bytes that are the record of a state; then_same goes on from them
 -- Assumes nothing.
 use Prim.Native.Nat.{ℕ, ◌+◌, ◌*◌, ◌/◌, ◌%◌, ◌<◌}
 use mathlib.Core.Path.{◌≡◌, sym, ap, ◌∙◌}
@@ -20,7 +21,7 @@ use Rattle.state.proofs.Tabulate.{tabulate_is}
 use Rattle.state.proofs.Laws.{list_shaped, relate_shaped}
 use Rattle.records.specs.Record.{list_start, pair_start, record_size, places, byte_of, bytes_of_places, bytes_of, is_record, state_of}
 use Rattle.records.proofs.Places.{place_count, places_length, list_inside, pair_inside, list_written, pair_written, bytes_long, byte_at, byte_bit}
-use Rattle.records.proofs.Laws.{state_shaped, state_of_bytes, bytes_of_state, bytes_are_record, bytes_length}
+use Rattle.records.proofs.Laws.{state_shaped, state_of_bytes, bytes_of_state, bytes_are_record, bytes_length, record_length}
 use Rattle.record_changes.specs.Writing.{written}
 
 -- ---- a byte with a bit written is a byte
@@ -101,6 +102,26 @@ holds_state bytes s t = ap state_of t.same ∙ state_of_bytes s t.shaped
 
 pub holds_length : (bytes : List ℕ) (s : Site) → Holds bytes s → length bytes ≡ record_size
 holds_length bytes s t = ap length t.same ∙ bytes_length s
+
+-- what is made of the state that the bytes hold is made of that state
+pub then_same : (bytes bytes' : List ℕ) (s : Site) (f : Site → Site) → Holds bytes s → bytes' ≡ bytes_of (f (state_of bytes)) → bytes' ≡ bytes_of (f s)
+then_same bytes bytes' s f t e = e ∙ ap (λ (x : Site). bytes_of (f x)) (holds_state bytes s t)
+
+pub listed_holds : (bytes bytes' : List ℕ) (k : Kind) (i : ℕ) (v : Bool) → bytes' ≡ bytes_of (with_listed (state_of bytes) k i v)
+    → Holds bytes' (with_listed (state_of bytes) k i v)
+listed_holds bytes bytes' k i v e = record { shaped = list_shaped (state_of bytes) k i v (state_shaped bytes); same = e }
+
+pub related_holds : (bytes bytes' : List ℕ) (r : Relation) (i j : ℕ) (v : Bool) → bytes' ≡ bytes_of (with_pair (state_of bytes) r i j v)
+    → Holds bytes' (with_pair (state_of bytes) r i j v)
+related_holds bytes bytes' r i j v e = record { shaped = relate_shaped (state_of bytes) r i j v (state_shaped bytes); same = e }
+
+-- the byte of a number, and of a pair, is there
+pub list_room : (bytes : List ℕ) (k : Kind) (i : ℕ) → T (is_record bytes) → i < limit k → list_start k + i / 8 < length bytes
+list_room bytes k i t q = omega (arith, list_inside (state_of bytes) (state_shaped bytes) k i q, record_length bytes t)
+
+pub pair_room : (bytes : List ℕ) (r : Relation) (i j : ℕ) → T (is_record bytes) → i < limit (first_kind r) → j < width
+    → pair_start r + i * 4 + j / 8 < length bytes
+pair_room bytes r i j t q p = omega (arith, pair_inside (state_of bytes) (state_shaped bytes) r i j q p, record_length bytes t)
 
 module _ (bytes bytes' : List ℕ) (s : Site) (t : Holds bytes s) where
   -- place p, bit k of byte `at`, is written

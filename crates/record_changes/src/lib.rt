@@ -1,34 +1,42 @@
 // Obeys an instruction on the bytes of a record, in place: the bits that it changes are written, and nothing else.
 #![tactic(auto)]
 
-ghost use Rattle.std.specs.Prelude.{◌≡◌, ◌+◌, ◌*◌, ◌/◌, ◌%◌, ◌<◌, T, length};
-ghost use Rattle.state.specs.Site.{owner, cells};
+ghost use Rattle.std.specs.Prelude.{◌≡◌, ◌<◌, T, length};
+ghost use Rattle.state.specs.Site.{limit, owner, first_kind, cells, with_listed, with_pair};
+ghost use Rattle.state.specs.Stands.{kind_of, relation_of};
 ghost use Rattle.state.specs.Walk.{has_first};
-ghost use Rattle.records.specs.Record.{bytes_of, is_record, state_of};
-ghost use Rattle.instructions.specs.Instructions.{four_bytes};
+ghost use Rattle.records.specs.Record.{list_start, pair_start, bytes_of, is_record, state_of};
 ghost use Rattle.instructions.specs.Decode.{fits};
 ghost use Rattle.successors.specs.Successor.{without_owner, changed};
 ghost use Rattle.record_changes.specs.Change.{changed_record};
 ghost use Rattle.record_changes.specs.Writing.{written};
 
-use instructions::{Decoded, Target};
+use instructions::{Bytes, Rule, Target};
+use state::{Kind, Relation};
 
-// The byte at which each set, and row 0 of each relation, begins: `list_start` and `pair_start`.
-const USERS: usize = 0;
+// The byte at which a set begins.
+fn list_start(kind: Kind) -> usize
+    ensures { result ≡ list_start (kind_of kind) }
+{
+    match kind {
+        Kind::User => records::USERS,
+        Kind::Area => records::AREAS,
+        Kind::Object => records::OBJECTS,
+    }
+}
 
-const AREAS: usize = 4;
-
-const OBJECTS: usize = 8;
-
-const OWNERS: usize = 16;
-
-const DEFINITIONS: usize = 144;
-
-const STRUCTURE: usize = 400;
-
-const IMPORTS: usize = 528;
-
-const EXPORTS: usize = 784;
+// The byte at which row 0 of a relation begins.
+fn pair_start(relation: Relation) -> usize
+    ensures { result ≡ pair_start (relation_of relation) }
+{
+    match relation {
+        Relation::Owner => records::OWNERS,
+        Relation::Definition => records::DEFINITIONS,
+        Relation::Structure => records::STRUCTURE,
+        Relation::Import => records::IMPORTS,
+        Relation::Export => records::EXPORTS,
+    }
+}
 
 // Writes whether bit `place` of byte `at` is set.
 fn write(bytes: &mut [u8], at: usize, place: u8, present: bool)
@@ -39,20 +47,21 @@ fn write(bytes: &mut [u8], at: usize, place: u8, present: bool)
     bytes[at] = row as u8;
 }
 
-// Writes whether the number is in the set that begins at byte `start`.
-fn mark(bytes: &mut [u8], start: usize, number: u8, present: bool)
-    requires { start + number / 8 < length bytes.old }
-    ensures { bytes.new ≡ written bytes.old (start + number / 8) (number % 8) present }
+// Lists the number, or unlists it.
+fn list(bytes: &mut [u8], kind: Kind, number: u8, present: bool)
+    requires { T (is_record bytes.old) × (number < limit (kind_of kind)) }
+    ensures { bytes.new ≡ bytes_of (with_listed (state_of bytes.old) (kind_of kind) number present) }
 {
+    let start = list_start(kind);
     write(bytes, start + (number / 8) as usize, number % 8, present);
 }
 
-// Writes whether the pair is in the relation whose row 0 stands at byte `start`.
-fn put(bytes: &mut [u8], start: usize, first: u8, area: u8, present: bool)
-    requires { start + first * 4 + area / 8 < length bytes.old }
-    ensures { bytes.new ≡ written bytes.old (start + first * 4 + area / 8) (area % 8)
-        present }
+// Adds the pair to the relation, or removes it.
+fn relate(bytes: &mut [u8], relation: Relation, first: u8, area: u8, present: bool)
+    requires { T (is_record bytes.old) × (first < limit (first_kind (relation_of relation))) × (area < 32) }
+    ensures { bytes.new ≡ bytes_of (with_pair (state_of bytes.old) (relation_of relation) first area present) }
 {
+    let start = pair_start(relation);
     write(
         bytes,
         start + first as usize * 4 + (area / 8) as usize,
@@ -66,7 +75,7 @@ fn owns_any(bytes: &[u8], user: u8) -> bool
     requires { T (is_record bytes.now) × (user < 32) }
     ensures { result ≡ has_first (cells (state_of bytes.now) owner) user }
 {
-    let at = OWNERS + user as usize * 4;
+    let at = records::OWNERS + user as usize * 4;
     (bytes[at] | bytes[at + 1] | bytes[at + 2] | bytes[at + 3]) != 0
 }
 
@@ -75,58 +84,55 @@ fn remove_owner(bytes: &mut [u8], user: u8, area: u8)
     requires { T (is_record bytes.old) × (user < 32) × (area < 32) }
     ensures { bytes.new ≡ bytes_of (without_owner (state_of bytes.old) user area) }
 {
-    put(bytes, OWNERS, user, area, false);
+    relate(bytes, Relation::Owner, user, area, false);
     if !owns_any(bytes, user) {
-        mark(bytes, USERS, user, false);
+        list(bytes, Kind::User, user, false);
     }
 }
 
-// Adds or removes what a, b and the activator u stand for.
-fn set_target(bytes: &mut [u8], target: Target, present: bool, u: u8, a: u8, b: u8)
-    requires { T (is_record bytes.old) × (u < 32) × (a < 32) × T (fits target b) }
-    ensures { bytes.new ≡ bytes_of (changed (state_of bytes.old) target present u a b) }
+// Adds or removes what the table says of a, b and the activator.
+fn set_target(bytes: &mut [u8], rule: Rule, four: Bytes)
+    requires { T (is_record bytes.old) × (four.activator < 32) × (four.a < 32) × T (fits rule.target four.b) }
+    ensures { bytes.new ≡ bytes_of (changed (state_of bytes.old) rule.target rule.adds four.activator four.a four.b) }
 {
-    match target {
+    let present = rule.adds;
+    match rule.target {
         Target::TheArea => {
             if present {
-                mark(bytes, AREAS, a, true);
-                put(bytes, OWNERS, u, a, true);
+                list(bytes, Kind::Area, four.a, true);
+                relate(bytes, Relation::Owner, four.activator, four.a, true);
             } else {
-                remove_owner(bytes, u, a);
-                mark(bytes, AREAS, a, false);
+                remove_owner(bytes, four.activator, four.a);
+                list(bytes, Kind::Area, four.a, false);
             }
         }
         Target::Owner => {
             if present {
-                mark(bytes, USERS, b, true);
-                put(bytes, OWNERS, b, a, true);
+                list(bytes, Kind::User, four.b, true);
+                relate(bytes, Relation::Owner, four.b, four.a, true);
             } else {
-                remove_owner(bytes, b, a);
+                remove_owner(bytes, four.b, four.a);
             }
         }
         Target::Definition => {
-            mark(bytes, OBJECTS, b, present);
-            put(bytes, DEFINITIONS, b, a, present);
+            list(bytes, Kind::Object, four.b, present);
+            relate(bytes, Relation::Definition, four.b, four.a, present);
         }
-        Target::Structure => put(bytes, STRUCTURE, a, b, present),
-        Target::Import => put(bytes, IMPORTS, b, a, present),
-        Target::Export => put(bytes, EXPORTS, b, a, present),
+        Target::Structure => relate(bytes, Relation::Structure, four.a, four.b, present),
+        Target::Import => relate(bytes, Relation::Import, four.b, four.a, present),
+        Target::Export => relate(bytes, Relation::Export, four.b, four.a, present),
     }
 }
 
 // Makes a record that of the state which the instruction would give: the places that it adds or removes are written,
 // and nothing else. Four bytes that fit no instruction change nothing, and a buffer of another length stays as it is.
-pub fn change(bytes: &mut [u8], code: u8, activator: u8, a: u8, b: u8)
-    ensures { bytes.new ≡ changed_record bytes.old (four_bytes code activator a b) }
+pub fn change(bytes: &mut [u8], four: Bytes)
+    ensures { bytes.new ≡ changed_record bytes.old four }
 {
     if bytes.len() != records::SIZE {
         return;
     }
-    let decoded = instructions::decode(code, activator, a, b);
-    let Decoded::Fits(x) = decoded else {
-        return;
-    };
-    let rule = instructions::rule_of(x);
-    let target = rule.target;
-    set_target(bytes, target, rule.adds, activator, a, b);
+    if let Ok(x) = instructions::decode(four) {
+        set_target(bytes, instructions::rule_of(x), four);
+    }
 }

@@ -1,27 +1,25 @@
 -- `record_changes::change` meets its contract.
 -- Assumes nothing.
 use Prim.Native.Nat.{ℕ, ◌<◌}
-use mathlib.Core.Path.{◌≡◌, refl, sym, ap, subst, ◌∙◌}
+use mathlib.Core.Path.{◌≡◌, sym, ap, subst, ◌∙◌}
 use mathlib.Core.Bool.{◌&&◌}
 use mathlib.Core.List.{List}
 use borrow.Author.Rules.{rules}
 use borrow.Author.Tests.{ne_eqb}
+use Rattle.std.specs.Prelude.{Ok, Err}
 use lib.Dec.{T, ltb, ltb→lt}
 use lib.ListN.{length}
 use Rattle.state.specs.Site.{Site}
 use Rattle.state.proofs.Bools.{and_left, and_right}
 use Rattle.records.specs.Record.{record_size, bytes_of, is_record, state_of, stored}
 use Rattle.records.proofs.Laws.{every_string, bytes_of_state, stored_sized, stored_other}
-use Rattle.instructions.specs.Instructions.{Bytes, four_bytes, rule}
-use Rattle.instructions.specs.Decode.{fits, decode_of}
+use Rattle.instructions.specs.Instructions.{Bytes, rule}
+use Rattle.instructions.specs.Decode.{fits, Decoded, decode_of}
 use Rattle.instructions.specs.declared.Instruction.{Instruction}
 use Rattle.instructions.specs.declared.Target.{Target}
 use Rattle.instructions.specs.declared.Rule.{Rule}
-use Rattle.instructions.specs.declared.Decoded.{Decoded}
-use Rattle.instructions.specs.declared.Decoded.TheVariants.{Fits, NoCode, OutOfRange}
 use Rattle.instructions.proofs.Laws.{fits_exactly}
 use Rattle.successors.specs.Successor.{changed, successor_of}
-use Rattle.successors.proofs.Misfit.{unfit}
 use Rattle.record_changes.proofs.change.Goals as goal
 
 -- bytes that fit an instruction have their numbers in range
@@ -30,7 +28,7 @@ record InRange (u a b : ℕ) (target : Target) : Type 0 where
   first : a < 32
   second : T (fits target b)
 
-is_in_range : (x : Bytes) (y : Instruction) (r : Rule) → decode_of x ≡ Fits y → r ≡ rule y → InRange x.activator x.a x.b r.target
+is_in_range : (x : Bytes) (y : Instruction) (r : Rule) → decode_of x ≡ Ok y → r ≡ rule y → InRange x.activator x.a x.b r.target
 is_in_range x y r e row =
     let t = ((fits_exactly x y).0 e).is_in_range in
     let user = ltb x.activator 32 in
@@ -44,7 +42,7 @@ is_in_range x y r e row =
     }
 
 -- and give what the row of that instruction says
-by_row : (s : Site) (x : Bytes) (y : Instruction) (r : Rule) (bytes : List ℕ) → decode_of x ≡ Fits y → r ≡ rule y
+by_row : (s : Site) (x : Bytes) (y : Instruction) (r : Rule) (bytes : List ℕ) → decode_of x ≡ Ok y → r ≡ rule y
     → bytes ≡ bytes_of (changed s r.target r.adds x.activator x.a x.b) → bytes ≡ bytes_of (successor_of s x (decode_of x))
 by_row s x y r bytes e row t =
     t ∙ ap (λ (z : Rule). bytes_of (changed s z.target z.adds x.activator x.a x.b)) row
@@ -59,24 +57,23 @@ returns-then-bytes-ne-SIZE c = sym (stored_other _ _ (ne_eqb _ _ c.if-bytes-ne-S
 
 pub returns-in_default : goal.returns-in_default
 returns-in_default c =
-    let x = four_bytes c.args.code c.args.activator c.args.a c.args.b in
+    let x = c.args.four in
     let s = state_of c.args.bytes.now in
-    let a_record : T (is_record c.args.bytes.now) = every_string _ c.if-bytes-ne-SIZE.false (λ k. (c.type_inv.bytes k).fits) in
+    let a_record : T (is_record c.args.bytes.now) = every_string _ c.if-bytes-ne-SIZE.false (λ k. search rules) in
+    let misfit : decode_of x ≡ Err c.in_default.field-0 = sym c.decode.ensures.equation ∙ c.in_default.is in
     laid _ (successor_of s x (decode_of x)) c.if-bytes-ne-SIZE.false
-    (sym (bytes_of_state _ a_record)
-    ∙ ap bytes_of (unfit s x c.decode-decoded.result c.in_default.not-Fits ∙ ap (successor_of s x) c.decode-decoded.ensures.equation))
+    (sym (bytes_of_state _ a_record) ∙ ap (λ (d : Decoded). bytes_of (successor_of s x d)) (sym misfit))
 
 pub set_target-requires : goal.set_target-requires
 set_target-requires c =
-    let x = four_bytes c.args.code c.args.activator c.args.a c.args.b in
-    let fitted : decode_of x ≡ Fits c.in-Fits.x = sym c.decode-decoded.ensures.equation ∙ c.in-Fits.is in
-    let ranged = is_in_range x _ _ fitted c.rule_of-rule.ensures in
+    let fitted : decode_of c.args.four ≡ Ok c.in-Ok.x = sym c.decode.ensures.equation ∙ c.in-Ok.is in
     let a_record : T (is_record c.args.bytes.now) = every_string _ c.if-bytes-ne-SIZE.false (λ k. search rules) in
+    let ranged = is_in_range _ _ _ fitted c.rule_of.ensures in
     (a_record, ranged.activator, ranged.first, ranged.second)
 
-pub returns : goal.returns
-returns c =
-    let x = four_bytes c.args.code c.args.activator c.args.a c.args.b in
+pub returns-in-Ok : goal.returns-in-Ok
+returns-in-Ok c =
+    let x = c.args.four in
     let s = state_of c.args.bytes.now in
-    let fitted : decode_of x ≡ Fits c.in-Fits.x = sym c.decode-decoded.ensures.equation ∙ c.in-Fits.is in
-    laid _ (successor_of s x (decode_of x)) c.if-bytes-ne-SIZE.false (by_row s x _ _ _ fitted c.rule_of-rule.ensures c.set_target.ensures)
+    let fitted : decode_of x ≡ Ok c.in-Ok.x = sym c.decode.ensures.equation ∙ c.in-Ok.is in
+    laid _ (successor_of s x (decode_of x)) c.if-bytes-ne-SIZE.false (by_row s x _ _ _ fitted c.rule_of.ensures c.set_target.ensures)
