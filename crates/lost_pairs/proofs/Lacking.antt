@@ -9,10 +9,11 @@ use native.Mathlib.Decide.{ℕ_discrete}
 use borrow.Author.Tests.{eq-eqb, ne_eqb}
 use lib.Dec.{eqb}
 use lib.ListN.{get_or}
+use Rattle.std.proofs.Common.{Some, None}
 use Rattle.bits.specs.Bits.{bit, places, lowest, without_lowest}
 use Rattle.bits.proofs.Laws.{bit_zero, lowest_is_right, lowest_inside, without_lowest_bit, without_lowest_fits}
-use Rattle.state.specs.Below.{first_below}
-use Rattle.state.proofs.Below.{first_is, first_none}
+use Rattle.state.specs.Below.{found_below}
+use Rattle.state.proofs.Below.{found_is, found_none}
 use Rattle.access.specs.Answer.{unreached}
 
 -- an area of the row without access, by the counts
@@ -36,9 +37,9 @@ module _ (areas : ℕ) (counts : List ℕ) where
       inside = lowest_inside rest w.left some
 
       -- the lowest lacks access: it is the first
-      pub passed_found : get_or counts (lowest rest) 0 ≡ unreached → lowest rest ≡ first_below places (lacks areas counts)
+      pub passed_found : get_or counts (lowest rest) 0 ≡ unreached → Some (lowest rest) ≡ found_below places (lacks areas counts)
       passed_found e =
-          sym (first_is (lacks areas counts) places low inside
+          sym (found_is (lacks areas counts) places low inside
           (sym (w.each low inside) ∙ ap₂ (λ (x y : Bool). x && y) ((lowest_is_right rest).is_set inside) (eq-eqb (get_or counts low 0) unreached e))
           (λ m h. sym (w.each m (omega (arith, inside, h))) ∙ ap (λ (b : Bool). b && eqb (get_or counts m 0) unreached) ((lowest_is_right rest).none_lower m h)))
 
@@ -56,7 +57,7 @@ module _ (areas : ℕ) (counts : List ℕ) where
               (without_lowest_bit rest a h ∙ ap (λ (b : Bool). cond b false (bit rest a)) (ne_eqb a low q))
 
     -- none is left: no area of the row lacks it
-    pub passed_all : rest ≡ 0 → places ≡ first_below places (lacks areas counts)
+    pub passed_all : rest ≡ 0 → None ≡ found_below places (lacks areas counts)
     passed_all none =
-        sym (first_none (lacks areas counts) places
+        sym (found_none (lacks areas counts) places
         (λ a h. sym (w.each a h) ∙ ap (λ (b : Bool). b && eqb (get_or counts a 0) unreached) (ap (λ (r : ℕ). bit r a) none ∙ bit_zero a)))

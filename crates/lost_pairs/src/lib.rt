@@ -3,96 +3,61 @@
 
 ghost use Rattle.std.specs.Prelude.{◌≡◌, ◌&&◌, eqb, get_or};
 ghost use Rattle.bits.specs.Bits.{bit};
-ghost use Rattle.state.specs.Below.{first_below};
+ghost use Rattle.bits.specs.Rows.{cells_of};
+ghost use Rattle.state.specs.Below.{found_below};
+ghost use Rattle.state.specs.Stands.{site};
 ghost use Rattle.access.specs.Answer.{unreached};
-ghost use Rattle.validity.specs.Parts.{site_for};
 ghost use Rattle.reasons.specs.Lost.{first_lost, lost_of};
-ghost use Rattle.lost_pairs.specs.Parts.{FirstBy};
+ghost use Rattle.lost_pairs.specs.Parts.{entry_by};
 
 use reasons::{Entry, Lost};
+use state::State;
 
-// The lowest area of the row that lacks access, by the least counts of all areas; 32 if none does.
-fn first_area(areas: u32, counts: &[u8; 32]) -> u8
-    ensures { result ≡ first_below 32 (λ a. bit areas a && eqb (get_or counts.now a 0) unreached) }
+// The lowest area of the row that lacks access, by the least counts of all areas, if one does.
+fn first_area(areas: u32, counts: &[u8; 32]) -> Option<u8>
+    ensures { result ≡ found_below 32 (λ a. bit areas a && eqb (get_or counts.now a 0) unreached) }
 {
     let mut rest = areas;
     while rest != 0 {
         let area = bits::lowest(rest);
         if counts[area as usize] == chain_finder::UNREACHED {
-            return area;
+            return Some(area);
         }
         let others = bits::without_lowest(rest);
         rest = others;
     }
-    32
+    None
 }
 
-// The first of the pairs, by object and then by area, whose area lacks access by the relations. The object is 64 if
-// there is none.
-fn first_of<'a>(
-    pairs: &'a [u32; 64],
-    definitions: &'a [u32; 64],
-    structure: &'a [u32; 32],
-    imports: &'a [u32; 64],
-    exports: &'a [u32; 64],
-) -> Entry
-    ensures { FirstBy definitions.now structure.now imports.now exports.now pairs.now result }
+// The first of the pairs, by object and then by area, whose area lacks access, if there is one.
+fn first_of(s: &State, pairs: &[u32; 64]) -> Option<Entry>
+    ensures { result ≡ entry_by (site s.now) (cells_of pairs.now) }
 {
-    let object = validity::first_lacking(definitions, structure, imports, exports, pairs, pairs);
-    let counts = chain_finder::least_counts(definitions, structure, imports, exports, object);
-    Entry {
-        object: object,
-        area: first_area(relations::row_of(pairs, object), &counts),
-    }
+    let object = validity::first_lacking(s, pairs, pairs)?;
+    let counts = chain_finder::least_counts(s, object);
+    let area = first_area(relations::row_of(pairs, object), &counts)?;
+    Some(Entry { object, area })
 }
 
-// The first import pair whose area lacks access, by these relations; if there is no such import, the first such export
-// pair; or none.
-pub fn first_lost<'a>(
-    definitions: &'a [u32; 64],
-    structure: &'a [u32; 32],
-    imports: &'a [u32; 64],
-    exports: &'a [u32; 64],
-) -> Lost
-    ensures { result ≡ first_lost (site_for definitions.now structure.now imports.now
-        exports.now) }
+// The first import pair whose area lacks access; if there is no such import, the first such export pair; or none.
+pub fn first_lost(s: &State) -> Option<Lost>
+    ensures { result ≡ first_lost (site s.now) }
 {
-    let imported = first_of(imports, definitions, structure, imports, exports);
-    if imported.object < 64 {
-        return Lost::LostImport(imported);
+    if let Some(entry) = first_of(s, &s.imports) {
+        return Some(Lost::Import(entry));
     }
-    let exported = first_of(exports, definitions, structure, imports, exports);
-    if exported.object < 64 {
-        return Lost::LostExport(exported);
-    }
-    Lost::NoneLost
+    let entry = first_of(s, &s.exports)?;
+    Some(Lost::Export(entry))
 }
 
 // The same of the pairs of one object.
-pub fn first_lost_of<'a>(
-    definitions: &'a [u32; 64],
-    structure: &'a [u32; 32],
-    imports: &'a [u32; 64],
-    exports: &'a [u32; 64],
-    object: u8,
-) -> Lost
-    ensures { result ≡ lost_of (site_for definitions.now structure.now imports.now
-        exports.now) object }
+pub fn first_lost_of(s: &State, object: u8) -> Option<Lost>
+    ensures { result ≡ lost_of (site s.now) object }
 {
-    let counts = chain_finder::least_counts(definitions, structure, imports, exports, object);
-    let importer = first_area(relations::row_of(imports, object), &counts);
-    if importer < 32 {
-        return Lost::LostImport(Entry {
-            object: object,
-            area: importer,
-        });
+    let counts = chain_finder::least_counts(s, object);
+    if let Some(area) = first_area(relations::row_of(&s.imports, object), &counts) {
+        return Some(Lost::Import(Entry { object, area }));
     }
-    let exporter = first_area(relations::row_of(exports, object), &counts);
-    if exporter < 32 {
-        return Lost::LostExport(Entry {
-            object: object,
-            area: exporter,
-        });
-    }
-    Lost::NoneLost
+    let area = first_area(relations::row_of(&s.exports, object), &counts)?;
+    Some(Lost::Export(Entry { object, area }))
 }

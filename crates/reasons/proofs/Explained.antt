@@ -10,16 +10,13 @@ use mathlib.Core.List.{List, ◌++◌}
 use native.Mathlib.Decide.{ℕ_discrete}
 use borrow.Author.Tests.{ne_eqb}
 use lib.ListN.{length, drop}
+use Rattle.std.proofs.Common.{Some, None}
 use Rattle.state.specs.Site.{Site}
 use Rattle.state.proofs.Bools.{fails}
 use Rattle.access.specs.Lending.{lending}
-use Rattle.access.specs.Answer.{answer, least_counts}
-use Rattle.access.specs.declared.Answer.{Answer}
-use Rattle.access.specs.declared.Answer.TheVariants.{Steps, NoAccess}
+use Rattle.access.specs.Answer.{Answer, answer, least_counts}
 use Rattle.chains.specs.First.{first_chain}
-use Rattle.reasons.specs.declared.Explanation.{Explanation}
-use Rattle.reasons.specs.declared.Explanation.TheVariants.{Unexplained, ByChain, ByCounts}
-use Rattle.reasons.specs.Explanation.{bytes_for, explain_refusal, which, explanation_of, explained_buffer}
+use Rattle.reasons.specs.Explanation.{Explanation, Unexplained, ByChain, ByCounts, bytes_for, explain_refusal, which, explanation_of, explained_buffer}
 use Rattle.reasons.specs.Laws
 
 pub refused_so : Laws.RefusedSo
@@ -38,10 +35,10 @@ in_front text buffer = text ++ drop (length text) buffer
 pub data Explained (s : Site) (a b : ℕ) (buffer : List ℕ) : Type 0 where
   refused : (explain_refusal s a b buffer ≡ 0 → ⊥) → explanation_of s a b buffer ≡ Unexplained (explain_refusal s a b buffer)
       → explained_buffer s a b buffer ≡ buffer → Explained s a b buffer
-  by_chain : (k : ℕ) → explain_refusal s a b buffer ≡ 0 → answer (lending s b) a ≡ Steps k
+  by_chain : (k : ℕ) → explain_refusal s a b buffer ≡ 0 → answer (lending s b) a ≡ Some k
       → explanation_of s a b buffer ≡ ByChain (length (first_chain (lending s b) a))
       → explained_buffer s a b buffer ≡ in_front (first_chain (lending s b) a) buffer → Explained s a b buffer
-  by_counts : explain_refusal s a b buffer ≡ 0 → answer (lending s b) a ≡ NoAccess
+  by_counts : explain_refusal s a b buffer ≡ 0 → answer (lending s b) a ≡ None
       → explanation_of s a b buffer ≡ ByCounts (length (least_counts (lending s b)))
       → explained_buffer s a b buffer ≡ in_front (least_counts (lending s b)) buffer → Explained s a b buffer
 
@@ -53,32 +50,19 @@ explained s a b buffer = go (ℕ_discrete (explain_refusal s a b buffer) 0)
     by x q e = let so = explained_so s a b buffer e in rw q at so
 
     answered : (x : Answer) → answer (lending s b) a ≡ x → explain_refusal s a b buffer ≡ 0 → Explained s a b buffer
-    answered (Steps k) q e = let so = by (Steps k) q e in by_chain k e q so.0 so.1
-    answered NoAccess q e = let so = by NoAccess q e in by_counts e q so.0 so.1
+    answered (Some k) q e = let so = by (Some k) q e in by_chain k e q so.0 so.1
+    answered None q e = let so = by None q e in by_counts e q so.0 so.1
 
     go : Dec (explain_refusal s a b buffer ≡ 0) → Explained s a b buffer
     go (yes e) = answered (answer (lending s b) a) refl e
     go (no f) = let so = refused_so s a b buffer (explain_refusal s a b buffer) refl f in refused f so.0 so.1
 
 -- ---- the cases told apart
-is_chain : Explanation → Bool
-is_chain (ByChain n) = true
-is_chain (ByCounts n) = false
-is_chain (Unexplained n) = false
-
-is_counts : Explanation → Bool
-is_counts (ByChain n) = false
-is_counts (ByCounts n) = true
-is_counts (Unexplained n) = false
-
 pub chain_counts : {n m : ℕ} → ByChain n ≡ ByCounts m → ⊥
-unfolding is_counts
-chain_counts e = fails (ap is_counts (sym e)) tt
+chain_counts e = cc
 
 pub refused_chain : {n m : ℕ} → Unexplained n ≡ ByChain m → ⊥
-unfolding is_chain
-refused_chain e = fails (ap is_chain (sym e)) tt
+refused_chain e = cc
 
 pub refused_counts : {n m : ℕ} → Unexplained n ≡ ByCounts m → ⊥
-unfolding is_counts
-refused_counts e = fails (ap is_counts (sym e)) tt
+refused_counts e = cc

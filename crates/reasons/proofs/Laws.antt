@@ -11,16 +11,15 @@ use borrow.Author.Tests.{lt-ltb, le-ltb, eq-eqb, ne_eqb, eqb-true}
 use lib.Dec.{T, eqb}
 use lib.ListN.{length, take, drop, get_or, length-append, length-drop, get_or-append}
 use lib.Seq.{take-append_seam, drop-append_seam}
+use Rattle.std.proofs.Common.{Some, None}
 use Rattle.state.specs.Checks.{first_met}
 use Rattle.state.specs.Site.{Site, import, export, Shaped}
 use Rattle.state.proofs.Bools.{is_true, fails, so, test}
 use Rattle.state.proofs.Checks.{met, passed}
 use Rattle.access.specs.Lending.{Lending, lending, step}
 use Rattle.access.specs.Chain.{Shortest}
-use Rattle.access.specs.Answer.{answer, access, answer_number, least_counts}
+use Rattle.access.specs.Answer.{Answer, answer, access, answer_number, least_counts}
 use Rattle.access.specs.Claims.{Right, is_steps}
-use Rattle.access.specs.declared.Answer.{Answer}
-use Rattle.access.specs.declared.Answer.TheVariants.{Steps, NoAccess}
 use Rattle.access.proofs.Laws.{answer_is_right, access_is_steps, count_is_answer, access_is_count, counts_length}
 use Rattle.chains.specs.First.{first_chain}
 use Rattle.chains.proofs.Laws.{first_is_first, nine_at_most}
@@ -29,9 +28,7 @@ use Rattle.successors.specs.Successor.{successor_of}
 use Rattle.soundness.specs.Tests.{is_valid}
 use Rattle.machine.specs.Step.{question_refusals, refused_or, reply_number, step_refusal, step_of}
 use Rattle.machine.proofs.Laws.{number_is_refusal, reply_by_first}
-use Rattle.reasons.specs.declared.Explanation.TheVariants.{ByChain, ByCounts}
-use Rattle.reasons.specs.declared.Lost.TheVariants.{NoneLost}
-use Rattle.reasons.specs.Explanation.{bytes_for, reason_bytes, explain_refusal, explanation_of, explanation_number, explanation_bytes, explained_buffer}
+use Rattle.reasons.specs.Explanation.{ByChain, ByCounts, bytes_for, reason_bytes, explain_refusal, explanation_of, explanation_number, explanation_bytes, explained_buffer}
 use Rattle.reasons.specs.Lost.{some_lost, first_lost, step_reason_of}
 use Rattle.reasons.specs.Claims
 use Rattle.reasons.specs.Claims.{ChainThere, CountsThere, NamedIn}
@@ -61,10 +58,10 @@ pub eleven_removes : Laws.ElevenRemoves
 eleven_removes = Losing.eleven_removes
 
 -- ---- access, by the answer
-has_access : (l : Lending) (a k : ℕ) → answer l a ≡ Steps k → T (access l a)
+has_access : (l : Lending) (a k : ℕ) → answer l a ≡ Some k → T (access l a)
 has_access l a k e = subst T (sym (access_is_steps l a ∙ ap is_steps e)) tt
 
-no_access : (l : Lending) (a : ℕ) → answer l a ≡ NoAccess → access l a ≡ false
+no_access : (l : Lending) (a : ℕ) → answer l a ≡ None → access l a ≡ false
 no_access l a e = access_is_steps l a ∙ ap is_steps e
 
 -- ---- an area and an object
@@ -93,8 +90,8 @@ module _ (l : Lending) (rest : List ℕ) where
   count_least c h t = rw (count_in c h ∙ count_is_answer l c h) (go (answer l c) (answer_is_right l c) (subst T (access_is_steps l c) t))
     where
       go : (x : Answer) → Right l c x → T (is_steps x) → Shortest l.defined_in (step l) c (answer_number x)
-      go (Steps k) r t = r.shortest
-      go NoAccess r t = absurd t
+      go (Some k) r t = r.shortest
+      go None r t = absurd t
 
   count_none : (c : ℕ) → c < 32 → (get_or (least_counts l ++ rest) c 0 ≡ 255) ↔ (access l c ≡ false)
   count_none c h = (
@@ -179,8 +176,8 @@ pub reason_fits : Laws.ReasonFits
 reason_fits s a b = go (answer (lending s b) a)
   where
     go : (x : Answer) → length (bytes_for (lending s b) a x) ≤ 32
-    go (Steps k) = let most = nine_at_most (lending s b) a in omega arith
-    go NoAccess = let size = counts_length (lending s b) in omega arith
+    go (Some k) = let most = nine_at_most (lending s b) a in omega arith
+    go None = let size = counts_length (lending s b) in omega arith
 
 -- what is not refused has the room
 roomy : (s : Site) (a b : ℕ) (buffer : List ℕ) → explain_refusal s a b buffer ≡ 0 → 32 ≤ length buffer
@@ -227,7 +224,7 @@ named_is_first s shaped x e =
 pub pair_exactly : Claims.PairExactly
 pair_exactly s shaped x = (there (ℕ_discrete (step_of s x).refusal 11), λ e none. rw none at (named_is_first s shaped x e))
   where
-    there : Dec ((step_of s x).refusal ≡ 11) → ((step_reason_of s x).lost ≡ NoneLost → ⊥) → (step_of s x).refusal ≡ 11
+    there : Dec ((step_of s x).refusal ≡ 11) → ((step_reason_of s x).lost ≡ None → ⊥) → (step_of s x).refusal ≡ 11
     there (yes e) some = e
     there (no f) some =
         absurd (some (rw (reason_so s x, ne_eqb (step_refusal s x) 11 (λ e. f (number_is_refusal s x ∙ e))) refl))

@@ -16,6 +16,7 @@ use native.Mathlib.Omega.{arith}
 use native.Mathlib.Decide.{ℕ_discrete, dec_lt}
 use borrow.Author.Tests.{lt-ltb}
 use lib.Dec.{T, ltb→lt, lt→ltb}
+use Rattle.std.proofs.Common.{Ok, Err}
 use Rattle.state.specs.Checks.{◌when◌, met_at}
 use Rattle.state.specs.Site.{Site, user, area, object, limit, with_listed, Relation, first_kind, owner, definition, structure, import, export, related, with_pair, Shaped}
 use Rattle.state.proofs.Below.{some_at, some_by, first_is, first_none, first_met_lem, first_under, first_found}
@@ -29,9 +30,7 @@ use Rattle.soundness.specs.Sound.{Valid}
 use Rattle.soundness.specs.Tests.{is_valid, is_sound}
 use Rattle.soundness.proofs.Laws.{valid_decided}
 use Rattle.instructions.specs.Instructions.{Bytes, rule}
-use Rattle.instructions.specs.Decode.{decode_of, misfits}
-use Rattle.instructions.specs.declared.Decoded.{Decoded}
-use Rattle.instructions.specs.declared.Decoded.TheVariants.{Fits, NoCode, OutOfRange}
+use Rattle.instructions.specs.Decode.{Decoded, decode_of, misfits}
 use Rattle.instructions.specs.declared.Target.{Target}
 use Rattle.instructions.specs.declared.Target.TheVariants.{TheArea, Owner, Definition, Structure, Import, Export}
 use Rattle.successors.specs.Successor.{keeps_listed, without_owner, changed, successor_of}
@@ -178,9 +177,8 @@ changed_shaped s h Import v u a b = relate_shaped s import b a v h
 changed_shaped s h Export v u a b = relate_shaped s export b a v h
 
 pub given_shaped : (s : Site) (x : Bytes) (d : Decoded) → Shaped s → Shaped (successor_of s x d)
-given_shaped s x (Fits y) h = changed_shaped s h (rule y).target (rule y).adds x.activator x.a x.b
-given_shaped s x NoCode h = h
-given_shaped s x OutOfRange h = h
+given_shaped s x (Ok y) h = changed_shaped s h (rule y).target (rule y).adds x.activator x.a x.b
+given_shaped s x (Err r) h = h
 
 -- 11: "codes 6, 8, 10, 12: the state it would give has an import or export pair whose area lacks access"
 eleven_met : (s : Site) (x : Bytes) (d : Decoded) → decode_of x ≡ d → step_refusal s x ≡ 11 → T (met_at 11 ((12 when not (is_sound s)) ∷ (misfits d ++ checks_of s x d)))
@@ -188,23 +186,21 @@ unfolding step_refusal
 eleven_met s x d q e = rw q at (met_at_lem 11 tt (refusals s x) (once_in (decode_of x)) e)
   where
     once_in : (d : Decoded) → T (once 11 ((12 when not (is_sound s)) ∷ (misfits d ++ checks_of s x d)))
-    once_in (Fits y) = tt
-    once_in NoCode = tt
-    once_in OutOfRange = tt
+    once_in (Ok y) = tt
+    once_in (Err r) = tt
 
 pub eleven_removes : Laws.ElevenRemoves
 eleven_removes s x y fit e =
     let removes = not (rule y).adds in
     let bears = bears_access (rule y).target in
-    let both = and_left (removes && bears) (not (is_valid (successor_of s x (Fits y)))) (eleven_met s x (Fits y) fit e) in
+    let both = and_left (removes && bears) (not (is_valid (successor_of s x (Ok y)))) (eleven_met s x (Ok y) fit e) in
     (is_false (rule y).adds (not_so (rule y).adds (and_left removes bears both)), and_right removes bears both)
 
 pub eleven_invalid : (s : Site) (x : Bytes) → step_refusal s x ≡ 11 → is_valid (successor_of s x (decode_of x)) ≡ false
 eleven_invalid s x e = go (decode_of x) refl
   where
     go : (d : Decoded) → decode_of x ≡ d → is_valid (successor_of s x d) ≡ false
-    go (Fits y) q =
-        let valid = is_valid (successor_of s x (Fits y)) in
-        is_false valid (not_so valid (and_right (not (rule y).adds && bears_access (rule y).target) (not valid) (eleven_met s x (Fits y) q e)))
-    go NoCode q = absurd (eleven_met s x NoCode q e)
-    go OutOfRange q = absurd (eleven_met s x OutOfRange q e)
+    go (Ok y) q =
+        let valid = is_valid (successor_of s x (Ok y)) in
+        is_false valid (not_so valid (and_right (not (rule y).adds && bears_access (rule y).target) (not valid) (eleven_met s x (Ok y) q e)))
+    go (Err r) q = absurd (eleven_met s x (Err r) q e)

@@ -1,6 +1,7 @@
 -- What is claimed of explanations, in the words of document 02, point 5. Each claim is a type, which proofs/Laws.antt
 -- inhabits under the claim's name.
 use Rattle.std.specs.Prelude.{ℕ, ◌≤◌, ◌<◌, ◌≡◌, ◌↔◌, ◌⊎◌, false, List, T, length, take, drop, get_or}
+use Rattle.std.specs.Prelude.{Option, Some, None}
 use Rattle.state.specs.Checks.{numbers}
 use Rattle.state.specs.Site.{Site, Relation, import, export, related, Shaped}
 use Rattle.access.specs.Lending.{lending, step}
@@ -11,10 +12,10 @@ use Rattle.instructions.specs.Instructions.{Bytes}
 use Rattle.instructions.specs.Decode.{decode_of}
 use Rattle.successors.specs.Successor.{successor_of}
 use Rattle.machine.specs.Step.{step_of, reply_of, reply_number}
-use Rattle.reasons.specs.declared.Explanation.TheVariants.{Unexplained, ByChain, ByCounts}
 use Rattle.reasons.specs.declared.Entry.{Entry}
 use Rattle.reasons.specs.declared.Lost.{Lost}
-use Rattle.reasons.specs.declared.Lost.TheVariants.{NoneLost, LostImport, LostExport}
+use Rattle.reasons.specs.declared.Lost.TheVariants.{Import as LostImport, Export as LostExport}
+use Rattle.reasons.specs.Explanation.{Unexplained, ByChain, ByCounts}
 use Rattle.reasons.specs.Explanation.{explain_refusals, explain_numbers, explain_refusal, explanation_of}
 use Rattle.reasons.specs.Explanation.{explanation_number, explained_buffer}
 use Rattle.reasons.specs.Lost.{step_reason_of}
@@ -99,10 +100,10 @@ pub record FirstOf (t : Site) (r : Relation) (e : Entry) : Type 0 where
   pub none_earlier : (o a : ℕ) → LostPair t r o a → NotAfter e.object e.area o a
 
 -- "imports before exports": an export is named where no import is lost
-abbrev pub NamedIn : Site → Lost → Type 0
-NamedIn t NoneLost = ⊥
-NamedIn t (LostImport e) = FirstOf t import e
-NamedIn t (LostExport e) = FirstOf t export e × ((o a : ℕ) → LostPair t import o a → ⊥)
+abbrev pub NamedIn : Site → Option Lost → Type 0
+NamedIn t None = ⊥
+NamedIn t (Some (LostImport e)) = FirstOf t import e
+NamedIn t (Some (LostExport e)) = FirstOf t export e × ((o a : ℕ) → LostPair t import o a → ⊥)
 
 -- "For a removal refused as 11, name the first pair left": in the state that the removal would give
 abbrev pub NamedIsFirst : Type 0
@@ -116,4 +117,4 @@ OwnNumber = (s : Site) (x : Bytes) → (step_reason_of s x).refusal ≡ (step_of
 
 abbrev pub PairExactly : Type 0
 PairExactly =
-    (s : Site) → Shaped s → (x : Bytes) → ((step_reason_of s x).lost ≡ NoneLost → ⊥) ↔ ((step_of s x).refusal ≡ 11)
+    (s : Site) → Shaped s → (x : Bytes) → ((step_reason_of s x).lost ≡ None → ⊥) ↔ ((step_of s x).refusal ≡ 11)

@@ -1,24 +1,24 @@
 -- Why an area can or can't see a table (document 02, point 5): which bytes are written into a lent buffer, what is
 -- answered, and what is refused.
-use Rattle.std.specs.Prelude.{ℕ, cond, List, ◌∷◌, ◌++◌, eqb, ltb, length, drop}
+use Rattle.std.specs.Prelude.{ℕ, cond, List, ◌∷◌, ◌++◌, eqb, ltb, length, drop, Some, None, Result, Ok, Err}
+use Rattle.verdicts.specs.Refusals.{number}
+use Rattle.verdicts.specs.declared.Refusal.{Refusal}
 use Rattle.state.specs.Site.{Site}
 use Rattle.state.specs.Checks.{Check, ◌when◌, first_met}
 use Rattle.access.specs.Lending.{Lending, lending}
-use Rattle.access.specs.Answer.{answer, least_counts}
-use Rattle.access.specs.declared.Answer.{Answer}
-use Rattle.access.specs.declared.Answer.TheVariants.{Steps, NoAccess}
+use Rattle.access.specs.Answer.{Answer, answer, least_counts}
 use Rattle.chains.specs.First.{first_chain}
 use Rattle.machine.specs.Step.{question_refusals, question_numbers}
-use Rattle.reasons.specs.declared.Explanation.{Explanation}
-use Rattle.reasons.specs.declared.Explanation.TheVariants.{Unexplained, ByChain, ByCounts}
+use Rattle.reasons.specs.declared.Explained.{Explained}
+use Rattle.reasons.specs.declared.Explained.TheVariants.{Chain, Counts}
 
 -- ---- what is written
 -- "For an area and an object with access, write the chain of areas from the definer: a shortest one, and among those
 -- the one with the lowest numbers compared from the front. Without access, write for each of the 32 areas its least
 -- step count, or 255 if it lacks access." Both are one byte for each area.
 abbrev pub bytes_for : Lending → (a : ℕ) → Answer → List ℕ
-bytes_for l a (Steps n) = first_chain l a
-bytes_for l a NoAccess = least_counts l
+bytes_for l a (Some n) = first_chain l a
+bytes_for l a None = least_counts l
 
 -- the bytes that explain the answer for area a and object b
 abbrev pub reason_bytes : Site → (a b : ℕ) → List ℕ
@@ -35,10 +35,21 @@ explain_numbers = 31 ∷ question_numbers
 abbrev pub explain_refusal : Site → (a b : ℕ) → (buffer : List ℕ) → ℕ
 explain_refusal s a b buffer = first_met (explain_refusals s a b buffer)
 
--- ---- what is answered: "the answer says which and how many bytes"
+-- ---- what is answered: "the answer says which and how many bytes"; or a refusal's number
+pub data Explanation : Type 0 where
+  Unexplained : ℕ → Explanation
+  ByChain : ℕ → Explanation
+  ByCounts : ℕ → Explanation
+
+-- what the code answers, as one of these
+abbrev pub as_explanation : Result Explained Refusal → Explanation
+as_explanation (Ok (Chain count)) = ByChain count
+as_explanation (Ok (Counts count)) = ByCounts count
+as_explanation (Err refusal) = Unexplained (number refusal)
+
 abbrev pub which : Answer → (count : ℕ) → Explanation
-which (Steps n) count = ByChain count
-which NoAccess count = ByCounts count
+which (Some n) count = ByChain count
+which None count = ByCounts count
 
 -- what is answered where nothing is refused
 abbrev pub explained_by : Site → (a b : ℕ) → Explanation

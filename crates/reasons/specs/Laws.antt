@@ -1,18 +1,17 @@
 -- What the layers above use. Each law is a type, which proofs/Laws.antt inhabits under the law's name.
-use Rattle.std.specs.Prelude.{ℕ, ◌≤◌, ◌<◌, ◌≡◌, false, List, ◌++◌, T, length, drop}
+use Rattle.std.specs.Prelude.{ℕ, ◌≤◌, ◌<◌, ◌≡◌, false, List, ◌++◌, T, length, drop, Ok}
 use Rattle.state.specs.Site.{Site, object, limit, import, export}
 use Rattle.soundness.specs.Sound.{Valid}
 use Rattle.instructions.specs.Instructions.{Bytes, rule}
 use Rattle.instructions.specs.Decode.{decode_of}
 use Rattle.instructions.specs.declared.Instruction.{Instruction}
-use Rattle.instructions.specs.declared.Decoded.TheVariants.{Fits}
 use Rattle.instructions.specs.declared.Target.{Target}
 use Rattle.successors.specs.Successor.{changed, successor_of}
 use Rattle.refusals.specs.Refusals.{bears_access}
 use Rattle.refusals.specs.Parts.{of_object}
 use Rattle.machine.specs.Step.{step_refusal}
-use Rattle.reasons.specs.declared.Explanation.TheVariants.{Unexplained}
-use Rattle.reasons.specs.Explanation.{reason_bytes, explain_refusal, explained_by, explanation_of, explained_buffer}
+use Rattle.reasons.specs.Explanation.{Unexplained, reason_bytes, explain_refusal, explained_by}
+use Rattle.reasons.specs.Explanation.{explanation_of, explained_buffer}
 use Rattle.reasons.specs.Lost.{is_lost, first_lost, lost_of, reason_for, step_reason_of}
 
 -- what is refused has its number, and changes no byte
@@ -52,5 +51,5 @@ LostIsOwn =
 -- what 11 says of the instruction: it removes what access rests on
 abbrev pub ElevenRemoves : Type 0
 ElevenRemoves =
-    (s : Site) (x : Bytes) (y : Instruction) → decode_of x ≡ Fits y → step_refusal s x ≡ 11
+    (s : Site) (x : Bytes) (y : Instruction) → decode_of x ≡ Ok y → step_refusal s x ≡ 11
     → ((rule y).adds ≡ false) × T (bears_access (rule y).target)

@@ -1,6 +1,7 @@
 -- Why a removal is refused as 11 (document 02, point 5): "name the first pair left whose area then lacks access:
 -- imports before exports, then by object, then by area".
-use Rattle.std.specs.Prelude.{ℕ, Bool, ◌&&◌, not, cond, eqb, ltb}
+use Rattle.std.specs.Prelude.{ℕ, Bool, ◌&&◌, not, cond, eqb, ltb, Option, Some, None, Result, Ok, Err}
+use Rattle.verdicts.specs.Refusals.{number}
 use Rattle.state.specs.Below.{some_below, first_below}
 use Rattle.state.specs.Site.{Site, area, object, limit, Relation, import, export, related}
 use Rattle.access.specs.Lending.{lending}
@@ -11,8 +12,8 @@ use Rattle.successors.specs.Successor.{successor_of}
 use Rattle.machine.specs.Step.{step_refusal}
 use Rattle.reasons.specs.declared.Entry.{Entry}
 use Rattle.reasons.specs.declared.Lost.{Lost}
-use Rattle.reasons.specs.declared.Lost.TheVariants.{NoneLost, LostImport, LostExport}
-use Rattle.reasons.specs.declared.StepReason.{StepReason}
+use Rattle.reasons.specs.declared.Lost.TheVariants.{Import as LostImport, Export as LostExport}
+use Rattle.reasons.specs.declared.StepRefused.{StepRefused}
 
 -- (o, a) is a pair of the relation, in the state t, "whose area then lacks access"
 unfoldable pub is_lost : (t : Site) → Relation → (o a : ℕ) → Bool
@@ -38,42 +39,51 @@ abbrev pub first_entry : (t : Site) → Relation → Entry
 first_entry t r = record { object = first_object t r; area = first_area t r (first_object t r) }
 
 -- "imports before exports"
-unfoldable pub first_lost : (t : Site) → Lost
+unfoldable pub first_lost : (t : Site) → Option Lost
 first_lost t =
-    cond (some_lost t import) (LostImport (first_entry t import))
-    (cond (some_lost t export) (LostExport (first_entry t export)) NoneLost)
+    cond (some_lost t import) (Some (LostImport (first_entry t import)))
+    (cond (some_lost t export) (Some (LostExport (first_entry t export))) None)
 
 -- Not needed to believe a claim: the same of the pairs of one object. Where no other object has lost a pair, it is the
 -- first of all (Laws, LostOfOne).
-unfoldable pub lost_of : (t : Site) → (o : ℕ) → Lost
+unfoldable pub lost_of : (t : Site) → (o : ℕ) → Option Lost
 lost_of t o =
-    cond (loses t import o) (LostImport (record { object = o; area = first_area t import o }))
-    (cond (loses t export o) (LostExport (record { object = o; area = first_area t export o })) NoneLost)
+    cond (loses t import o) (Some (LostImport (record { object = o; area = first_area t import o })))
+    (cond (loses t export o) (Some (LostExport (record { object = o; area = first_area t export o }))) None)
 
 -- the values of each case: 0 for no pair, 1 for an import pair, 2 for an export pair; its object and its area
-abbrev pub lost_kind : Lost → ℕ
-lost_kind NoneLost = 0
-lost_kind (LostImport e) = 1
-lost_kind (LostExport e) = 2
+abbrev pub lost_kind : Option Lost → ℕ
+lost_kind None = 0
+lost_kind (Some (LostImport e)) = 1
+lost_kind (Some (LostExport e)) = 2
 
-abbrev pub lost_object : Lost → ℕ
-lost_object NoneLost = 0
-lost_object (LostImport e) = e.object
-lost_object (LostExport e) = e.object
+abbrev pub lost_object : Option Lost → ℕ
+lost_object None = 0
+lost_object (Some (LostImport e)) = e.object
+lost_object (Some (LostExport e)) = e.object
 
-abbrev pub lost_area : Lost → ℕ
-lost_area NoneLost = 0
-lost_area (LostImport e) = e.area
-lost_area (LostExport e) = e.area
+abbrev pub lost_area : Option Lost → ℕ
+lost_area None = 0
+lost_area (Some (LostImport e)) = e.area
+lost_area (Some (LostExport e)) = e.area
 
--- a number, and a pair or none
-abbrev pub reason : (number : ℕ) → Lost → StepReason
+-- a refusal's number, 0 for none, and the pair that explains it
+pub record StepReason : Type 0 where
+  pub refusal : ℕ
+  pub lost : Option Lost
+
+abbrev pub reason : (number : ℕ) → Option Lost → StepReason
 reason number lost = record { refusal = number; lost = lost }
+
+-- what the code answers, as that
+abbrev pub as_reason : Result Unit StepRefused → StepReason
+as_reason (Ok done) = reason 0 None
+as_reason (Err refused) = reason (number refused.refusal) refused.lost
 
 -- "For a removal refused as 11, name the first pair left", of the state that the removal would give. "For an
 -- instruction not refused as 11 the answer is its own number or 0, and no pair."
 abbrev pub reason_for : (number : ℕ) → (t : Site) → StepReason
-reason_for number t = reason number (cond (eqb number 11) (first_lost t) NoneLost)
+reason_for number t = reason number (cond (eqb number 11) (first_lost t) None)
 
 unfoldable pub step_reason_of : Site → Bytes → StepReason
 step_reason_of s bytes = reason_for (step_refusal s bytes) (successor_of s bytes (decode_of bytes))

@@ -3,32 +3,32 @@
 // `explain` have those.
 #![tactic(auto)]
 
-// What was written into the buffer, and how many bytes: the chain, or the counts; or the refusal.
-#[derive(Drop)]
-pub enum Explanation {
-    Unexplained(u8),
-    ByChain(u8),
-    ByCounts(u8),
+use verdicts::Refusal;
+
+// What was written into the buffer, and how many bytes: the chain, or the counts.
+#[derive(Clone, Copy)]
+pub enum Explained {
+    Chain(u8),
+    Counts(u8),
 }
 
 // An import or export pair.
-#[derive(Drop)]
+#[derive(Clone, Copy)]
 pub struct Entry {
     pub object: u8,
     pub area: u8,
 }
 
-// The first pair whose area would lack access after a removal, if there is one.
-#[derive(Drop)]
+// A pair whose area would lack access after a removal.
+#[derive(Clone, Copy)]
 pub enum Lost {
-    NoneLost,
-    LostImport(Entry),
-    LostExport(Entry),
+    Import(Entry),
+    Export(Entry),
 }
 
-// The refusal of an instruction, 0 for none, and the pair that explains it.
-#[derive(Drop)]
-pub struct StepReason {
-    pub refusal: u8,
-    pub lost: Lost,
+// Why an instruction is refused: the refusal, and the pair that explains it, where there is one.
+#[derive(Clone, Copy)]
+pub struct StepRefused {
+    pub refusal: Refusal,
+    pub lost: Option<Lost>,
 }

@@ -7,9 +7,10 @@ use mathlib.Core.Bool.{◌&&◌}
 use mathlib.Core.List.{List}
 use lib.Dec.{eqb}
 use lib.ListN.{get_or}
+use Rattle.std.proofs.Common.{Some}
 use Rattle.bits.specs.Bits.{bit, places, lowest, without_lowest}
 use Rattle.bits.proofs.Laws.{lowest_inside, without_lowest_less}
-use Rattle.state.specs.Below.{first_below}
+use Rattle.state.specs.Below.{found_below}
 use Rattle.access.specs.Answer.{unreached}
 use Rattle.lost_pairs.proofs.Lacking.{Passed, passed_found, passed_more, passed_all}
 use Rattle.lost_pairs.proofs.first_area.Goals as goal
@@ -17,8 +18,8 @@ use Rattle.lost_pairs.proofs.first_area.Goals.{After-lowest-area}
 
 -- the area that is found, and one turn more, by what the calls promise
 found : (areas : ℕ) (counts : List ℕ) (rest area : ℕ) → Passed areas counts rest → (rest ≡ 0 → ⊥) → area ≡ lowest rest → get_or counts area 0 ≡ unreached
-    → area ≡ first_below places (λ a. bit areas a && eqb (get_or counts a 0) unreached)
-found areas counts rest area w some ea e = ea ∙ passed_found areas counts rest w some (ap (λ (a : ℕ). get_or counts a 0) (sym ea) ∙ e)
+    → Some area ≡ found_below places (λ a. bit areas a && eqb (get_or counts a 0) unreached)
+found areas counts rest area w some ea e = ap Some ea ∙ passed_found areas counts rest w some (ap (λ (a : ℕ). get_or counts a 0) (sym ea) ∙ e)
 
 turn : (areas : ℕ) (counts : List ℕ) (rest area others : ℕ) → Passed areas counts rest → (rest ≡ 0 → ⊥) → area ≡ lowest rest
     → others ≡ without_lowest rest → (get_or counts area 0 ≡ unreached → ⊥) → Passed areas counts others

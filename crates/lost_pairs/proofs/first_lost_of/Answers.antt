@@ -1,83 +1,67 @@
 -- `lost_pairs::first_lost_of` meets its contract: the lowest area of the object's imports that lacks access, or else that of its exports.
 -- Assumes nothing.
-use Prim.Native.Nat.{ℕ, ◌<◌, ◌≤◌}
-use mathlib.Core.Path.{◌≡◌, refl, sym, ap, ◌∙◌}
-use mathlib.Core.Bool.{Bool, true, false, ◌&&◌}
+use mathlib.Core.Path.{◌≡◌, refl, ap, ◌∙◌}
+use mathlib.Core.Bool.{false, ◌&&◌, cond}
 use mathlib.Core.List.{List}
 use lib.Dec.{eqb}
 use lib.ListN.{get_or}
+use Rattle.std.proofs.Common.{ℕ, Option, Some, None}
 use Rattle.bits.specs.Bits.{bit}
-use Rattle.bits.specs.Rows.{Rows}
-use Rattle.state.specs.Below.{some_below, first_below}
-use Rattle.state.specs.Site.{Site, Relation, import, export}
+use Rattle.state.specs.Below.{found_below}
+use Rattle.state.specs.Site.{import, export}
+use Rattle.state.specs.Stands.{site}
+use Rattle.state.specs.declared.State.{State}
 use Rattle.access.specs.Lending.{lending}
 use Rattle.access.specs.Answer.{unreached, least_counts}
-use Rattle.validity.specs.Parts.{site_for}
-use Rattle.reasons.specs.declared.Lost.TheVariants.{NoneLost, LostImport, LostExport}
+use Rattle.reasons.specs.declared.Lost.TheVariants.{Import as LostImport, Export as LostExport}
 use Rattle.reasons.specs.Lost.{is_lost, loses, first_area, lost_of}
 use Rattle.lost_pairs.specs.Parts.{is_lost_by, area_by}
-use Rattle.lost_pairs.proofs.Losing.{lost_area, area_found, area_none, same_imports, same_exports}
+use Rattle.lost_pairs.proofs.Losing.{area_is, was_some, was_none}
 use Rattle.lost_pairs.proofs.first_lost_of.Goals as goal
-use Rattle.lost_pairs.proofs.first_lost_of.Goals.{Else-importer-lt32}
 
 -- the lowest area of a row that lacks access, by the counts
-abbrev lowest_in : (row : ℕ) (counts : List ℕ) → ℕ
-lowest_in row counts = first_below 32 (λ a. bit row a && eqb (get_or counts a 0) unreached)
+abbrev lowest_in : (row : ℕ) (counts : List ℕ) → Option ℕ
+lowest_in row counts = found_below 32 (λ a. bit row a && eqb (get_or counts a 0) unreached)
 
-module _ (ds st im ex : Rows) (o : ℕ) (counts : List ℕ) (counted : counts ≡ least_counts (lending (site_for ds st im ex) o)) where
-  abbrev here : Site
-  here = site_for ds st im ex
+module _ (s : State) (o : ℕ) (counts : List ℕ) (counted : counts ≡ least_counts (lending (site s) o)) where
+  -- the lowest area of the row is that of the relation
+  imports : (row : ℕ) → row ≡ get_or s.imports o 0 → lowest_in row counts ≡ cond (loses (site s) import o) (Some (first_area (site s) import o)) None
+  unfolding site area_by first_area is_lost_by is_lost
+  imports row here = area_is (site s) s.imports o row counts counted here
 
-  -- the object's pairs of a relation, by the row that has them
-  module _ (ps : Rows) (q : Relation) (same : is_lost_by ds st im ex ps ≡ is_lost here q) (row r : ℕ) (known : row ≡ get_or ps o 0) (e : r ≡ lowest_in row counts) where
-    found : r < 32 → loses here q o ≡ true
-    found h = ap (λ (lost : ℕ → ℕ → Bool). some_below 32 (lost o)) (sym same) ∙ area_found ds st im ex ps o counts row counted known r e h
+  exports : (row : ℕ) → row ≡ get_or s.exports o 0 → lowest_in row counts ≡ cond (loses (site s) export o) (Some (first_area (site s) export o)) None
+  unfolding site area_by first_area is_lost_by is_lost
+  exports row here = area_is (site s) s.exports o row counts counted here
 
-    none : 32 ≤ r → loses here q o ≡ false
-    none h = ap (λ (lost : ℕ → ℕ → Bool). some_below 32 (lost o)) (sym same) ∙ area_none ds st im ex ps o counts row counted known r e h
+  lost_import : (row a : ℕ) → row ≡ get_or s.imports o 0 → Some a ≡ lowest_in row counts → Some (LostImport (record { object = o; area = a })) ≡ lost_of (site s) o
+  unfolding lost_of
+  lost_import row a here h =
+      let was = was_some (first_area (site s) import o) (loses (site s) import o) a (h ∙ imports row here) in
+      rw was.0 (ap (λ (a : ℕ). Some (LostImport (record { object = o; area = a }))) was.1)
 
-    first : r < 32 → r ≡ first_area here q o
-    unfolding area_by first_area
-    first h =
-        lost_area ds st im ex ps o counts row counted known r e (area_found ds st im ex ps o counts row counted known r e h)
-        ∙ ap (λ (lost : ℕ → ℕ → Bool). first_below 32 (lost o)) same
+  module _ (row : ℕ) (here : row ≡ get_or s.imports o 0) (none : None ≡ lowest_in row counts) where
+    no_import : loses (site s) import o ≡ false
+    no_import = was_none (first_area (site s) import o) (loses (site s) import o) (none ∙ imports row here)
 
-  module _ (row r : ℕ) (known : row ≡ get_or im o 0) (e : r ≡ lowest_in row counts) where
-    lost_import : r < 32 → LostImport (record { object = o; area = r }) ≡ lost_of here o
+    lost_export : (other a : ℕ) → other ≡ get_or s.exports o 0 → Some a ≡ lowest_in other counts → Some (LostExport (record { object = o; area = a })) ≡ lost_of (site s) o
     unfolding lost_of
-    lost_import h =
-        rw (found im import (same_imports ds st im ex) row r known e h)
-        (ap (λ (a : ℕ). LostImport (record { object = o; area = a })) (first im import (same_imports ds st im ex) row r known e h))
+    lost_export other a there h =
+        let was = was_some (first_area (site s) export o) (loses (site s) export o) a (h ∙ exports other there) in
+        rw (no_import, was.0) (ap (λ (a : ℕ). Some (LostExport (record { object = o; area = a }))) was.1)
 
-    no_import : 32 ≤ r → loses here import o ≡ false
-    no_import h = none im import (same_imports ds st im ex) row r known e h
-
-  module _ (row r : ℕ) (known : row ≡ get_or ex o 0) (e : r ≡ lowest_in row counts) (no : loses here import o ≡ false) where
-    lost_export : r < 32 → LostExport (record { object = o; area = r }) ≡ lost_of here o
+    none_lost : (other : ℕ) → other ≡ get_or s.exports o 0 → None ≡ lowest_in other counts → None ≡ lost_of (site s) o
     unfolding lost_of
-    lost_export h =
-        rw (no, found ex export (same_exports ds st im ex) row r known e h)
-        (ap (λ (a : ℕ). LostExport (record { object = o; area = a })) (first ex export (same_exports ds st im ex) row r known e h))
+    none_lost other there h =
+        rw (no_import, was_none (first_area (site s) export o) (loses (site s) export o) (h ∙ exports other there)) refl
 
-    none_lost : 32 ≤ r → NoneLost ≡ lost_of here o
-    unfolding lost_of
-    none_lost h = rw (no, none ex export (same_exports ds st im ex) row r known e h) refl
+pub returns-in-Some : goal.returns-in-Some
+returns-in-Some c = lost_import c.args.s.now _ _ c.least_counts-counts.ensures _ _ c.row_of.ensures c.in-Some.ensures
 
-pub returns-then-importer-lt32 : goal.returns-then-importer-lt32
-returns-then-importer-lt32 c =
-    lost_import _ _ _ _ _ _ c.least_counts-counts.ensures _ _ c.row_of.ensures c.first_area-importer.ensures c.if-importer-lt32.true
-
--- no importer lacks access, where the exporters are asked
-imports_fit : (c : Else-importer-lt32)
-    → let x = c.args in
-    loses (site_for x.definitions.now x.structure.now x.imports.now x.exports.now) import x.object ≡ false
-imports_fit c =
-    no_import _ _ _ _ _ _ c.least_counts-counts.ensures _ _ c.row_of.ensures c.first_area-importer.ensures c.if-importer-lt32.false
-
-pub returns-then-exporter-lt32 : goal.returns-then-exporter-lt32
-returns-then-exporter-lt32 c =
-    lost_export _ _ _ _ _ _ c.least_counts-counts.ensures _ _ c.row_of-2.ensures c.first_area-exporter.ensures (imports_fit (goal.at.returns-then-exporter-lt32 c).Else-importer-lt32) c.if-exporter-lt32.true
+pub returns-in_err-area : goal.returns-in_err-area
+returns-in_err-area c =
+    c.from_residual.ensures
+    ∙ none_lost c.args.s.now _ _ c.least_counts-counts.ensures _ c.row_of.ensures c.in_default.ensures _ c.row_of-2.ensures c.in_err-area.ensures
 
 pub returns : goal.returns
 returns c =
-    none_lost _ _ _ _ _ _ c.least_counts-counts.ensures _ _ c.row_of-2.ensures c.first_area-exporter.ensures (imports_fit (goal.at.returns c).Else-importer-lt32) c.if-exporter-lt32.false
+    lost_export c.args.s.now _ _ c.least_counts-counts.ensures _ c.row_of.ensures c.in_default.ensures _ _ c.row_of-2.ensures c.in_ok-area.ensures
