@@ -9,7 +9,7 @@ use mathlib.Core.List.{List, [], ◌∷◌, ◌++◌}
 use lib.Dec.{T, eqb}
 use native.Mathlib.Decide.{ℕ_discrete}
 use borrow.Author.Tests.{eqb-true, eq-eqb}
-use Rattle.state.specs.Site.{user, area, object, limit, Relation, owner, definition, structure, import, export, first_kind}
+use Rattle.state.specs.Site.{user, area, object, limit, Relation, owner, definition, import, export, first_kind}
 use Rattle.state.specs.Site.{listed, with_listed, with_pair, owns, imports, exports, Shaped}
 use Rattle.state.specs.Walk.{some_member, some_pair, has_first, has_second}
 use Rattle.state.specs.Site.{Site}
@@ -189,6 +189,6 @@ pub late_by_result : Claims.LateByResult
 unfolding adding_or_not
 late_by_result s sound r u a b = same_by s sound r.target r.adds u a b
 
--- so all the checks of an instruction are those that `refusal_of` makes
+-- so all the checks of an instruction are those that `refusals::check` makes
 pub found_by_result : (s : Site) → Sound s → (x : Instruction) (u a b : ℕ) → instruction_checks s x u a b ≡ found_checks s x u a b
 found_by_result s sound x u a b = ap (λ (l : List Check). early_checks (seen_of s u a b) (rule x) ++ l) (late_by_result s sound (rule x) u a b)

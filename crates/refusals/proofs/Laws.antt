@@ -5,8 +5,7 @@ use mathlib.Core.Bool.{not}
 use mathlib.Core.List.{◌∷◌, ◌++◌}
 use Rattle.state.specs.Checks.{◌when◌, numbers}
 use Rattle.soundness.specs.Tests.{is_sound}
-use Rattle.instructions.specs.Decode.{misfits}
-use Rattle.instructions.specs.declared.Decoded.{Decoded}
+use Rattle.instructions.specs.Decode.{Decoded, misfits}
 use Rattle.refusals.specs.Refusals.{checks_of}
 use Rattle.refusals.specs.Claims
 

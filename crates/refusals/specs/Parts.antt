@@ -1,5 +1,5 @@
--- Not needed to believe a claim. The checks as the functions of this crate make them: a table from its numbers and
--- conditions; 8 to 11 of the state t that an instruction would give; and all of them.
+-- Not needed to believe a claim. The checks as the functions of this crate make them: 8 to 11 of the state t that an
+-- instruction would give, and all of them.
 use Rattle.std.specs.Prelude.{ℕ, Bool, true, false, ◌&&◌, not, List, [], ◌∷◌, ◌++◌}
 use Rattle.state.specs.Checks.{Check, ◌when◌}
 use Rattle.state.specs.Site.{Site, area, members, owner, cells}
@@ -15,12 +15,6 @@ use Rattle.instructions.specs.declared.Target.{Target}
 use Rattle.instructions.specs.declared.Target.TheVariants.{TheArea, Owner, Definition, Structure, Import, Export}
 use Rattle.successors.specs.Successor.{successor}
 use Rattle.refusals.specs.Refusals.{is_entry, early_checks}
-
--- a table of numbers and conditions
-abbrev pub rows_of : List ℕ → List Bool → List Check
-rows_of [] conditions = []
-rows_of (n ∷ numbers) [] = []
-rows_of (n ∷ numbers) (c ∷ conditions) = (n when c) ∷ rows_of numbers conditions
 
 -- 8 and 9, by what is left in the state t: no area, or no owner of area a; a pair that names area a
 abbrev pub none_left : Site → Target → ℕ → Bool
@@ -67,7 +61,7 @@ of_object Structure = false
 of_object Import = true
 of_object Export = true
 
--- the checks of an instruction as `refusal_of` makes them: the early ones, then 8 to 11 of the state that it would give
+-- the checks of an instruction as `check` makes them: the early ones, then 8 to 11 of the state that it would give
 abbrev pub found_checks : Site → Instruction → (u a b : ℕ) → List Check
 found_checks s x u a b =
     early_checks (seen_of s u a b) (rule x) ++ result_checks (successor s x u a b) (rule x).target (rule x).adds a b

@@ -2,7 +2,7 @@
 -- condition with the papers' words, and the table in the papers' order. 1 and 2 are the decoder's (instructions,
 -- Decode). The early ones depend on the row of the instruction and on what is read of the state (readings, `seen_of`),
 -- the late ones on the state and what it would become.
-use Rattle.std.specs.Prelude.{ℕ, Bool, true, false, ◌&&◌, ◌||◌, not, List, [], ◌∷◌, ◌++◌, eqb}
+use Rattle.std.specs.Prelude.{ℕ, Bool, true, false, ◌&&◌, ◌||◌, not, Ok, Err, List, [], ◌∷◌, ◌++◌, eqb}
 use Rattle.state.specs.Checks.{Check, ◌when◌}
 use Rattle.state.specs.Site.{Site, area, members, owner, definition, structure, import, export, cells}
 use Rattle.state.specs.Walk.{each_member, some_pair, each_pair, has_first, has_second}
@@ -12,7 +12,7 @@ use Rattle.access.specs.Lending.{lending}
 use Rattle.access.specs.Answer.{access}
 use Rattle.soundness.specs.Tests.{is_valid, is_sound}
 use Rattle.instructions.specs.Instructions.{Bytes, rule}
-use Rattle.instructions.specs.Decode.{decode_of, misfits}
+use Rattle.instructions.specs.Decode.{Decoded, decode_of, misfits}
 use Rattle.instructions.specs.declared.Instruction.{Instruction}
 use Rattle.instructions.specs.declared.Rule.{Rule}
 use Rattle.instructions.specs.declared.Target.{Target}
@@ -21,8 +21,6 @@ use Rattle.instructions.specs.declared.Lookup.{Lookup}
 use Rattle.instructions.specs.declared.Lookup.TheVariants.{NoLookup, OnlyA, Both}
 use Rattle.instructions.specs.declared.MustOwn.{MustOwn}
 use Rattle.instructions.specs.declared.MustOwn.TheVariants.{OwnsNothing, OwnsA, OwnsBoth, OwnsToCut}
-use Rattle.instructions.specs.declared.Decoded.{Decoded}
-use Rattle.instructions.specs.declared.Decoded.TheVariants.{Fits, NoCode, OutOfRange}
 use Rattle.successors.specs.Successor.{changed}
 
 -- ---- 4: "not listed: area a (codes 2 to 12), user b (4), area b (5, 6), object b (8 to 12)"
@@ -158,9 +156,8 @@ instruction_checks s x u a b = early_checks (seen_of s u a b) (rule x) ++ late_c
 -- the same for four bytes, by what they fit; there is nothing to check where they fit no instruction: "bytes that fit
 -- no kind are refused before any number is looked up in the lists"
 abbrev pub checks_of : Site → Bytes → Decoded → List Check
-checks_of s bytes (Fits x) = instruction_checks s x bytes.activator bytes.a bytes.b
-checks_of s bytes NoCode = []
-checks_of s bytes OutOfRange = []
+checks_of s bytes (Ok x) = instruction_checks s x bytes.activator bytes.a bytes.b
+checks_of s bytes (Err refusal) = []
 
 -- all but 12, from 1 on: what is asked where the state is known to be sound
 abbrev pub further_refusals : Site → Bytes → List Check
