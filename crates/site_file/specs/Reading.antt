@@ -1,6 +1,10 @@
 -- The refusals of a site file in the paper's order, and what an accepted file holds (document 01, 'The site file'; a
 -- part of 29 is of document 02, point 4).
-use Rattle.std.specs.Prelude.{ℕ, Bool, true, ◌&&◌, ◌||◌, not, cond, List, [], ◌∷◌, ◌++◌, eqb}
+use Rattle.std.specs.Prelude.{ℕ, Bool, true, ◌&&◌, ◌||◌, not, cond, List, [], ◌∷◌, ◌++◌, eqb, Result, Ok, Err}
+use Rattle.verdicts.specs.Refusals.{refusal_number}
+use Rattle.verdicts.specs.declared.Refusal.{Refusal}
+use Rattle.state.specs.declared.State.{State}
+use Rattle.state.specs.Stands.{site}
 use Rattle.state.specs.Checks.{Check, ◌when◌, first_met}
 use Rattle.state.specs.Cells.{Pairs}
 use Rattle.state.specs.Site.{Relation, founding, Verdict, verdict}
@@ -70,3 +74,13 @@ file_refusal file = first_met (file_checks file)
 -- the number and the state; "the state beside a refusal is F"
 unfoldable pub read_of : (file : List ℕ) → Verdict
 read_of file = verdict (file_refusal file) (cond (eqb (file_refusal file) 0) (state_in file) founding)
+
+-- ---- what the code answers
+-- the state that was read; "the state beside a refusal is F"
+abbrev pub as_state : Result State Refusal → Site
+as_state (Ok s) = site s
+as_state (Err refusal) = founding
+
+-- with the number beside it
+abbrev pub as_verdict : Result State Refusal → Verdict
+as_verdict result = verdict (refusal_number result) (as_state result)

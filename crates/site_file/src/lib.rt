@@ -1,45 +1,63 @@
-// Site files: any bytes get a sound state or a refusal number.
+// Site files: any bytes get a sound state or a refusal.
 #![tactic(auto)]
 
 ghost use Rattle.std.specs.Prelude.{◌≡◌};
 ghost use Rattle.state.specs.Checks.{first_met};
-ghost use Rattle.state.specs.Site.{founding, verdict};
-ghost use Rattle.state.specs.Stands.{site};
+ghost use Rattle.state.specs.Site.{limit, first_kind};
+ghost use Rattle.state.specs.Stands.{site, relation_of};
 ghost use Rattle.soundness.specs.Sound.{Sound};
-ghost use Rattle.site_format.specs.Format.{labels, part};
-ghost use Rattle.site_file.specs.Reading.{tables_fit, tables_ascend, state_in, state_checks, read_of};
+ghost use Rattle.site_format.specs.Format.{held, labels, part, content_fits, content_ascends};
+ghost use Rattle.site_file.specs.Reading.{tables_fit, tables_ascend, state_in, state_checks, as_state};
+ghost use Rattle.site_file.specs.Reading.{as_verdict, read_of};
+ghost use Rattle.verdicts.specs.Refusals.{refusal_number};
 
-use state::State;
+use site_format::Table;
+use state::{Relation, State};
+use verdicts::Refusal;
 
-// The refusal, 0 for none, and the state that the file holds; beside a refusal, the founding state.
-#[derive(Drop)]
-pub struct Reading {
-    pub refusal: u8,
-    pub state: State,
+// The limit of the first number of a relation's pairs.
+fn first_limit(relation: Relation) -> u8
+    ensures { result ≡ limit (first_kind (relation_of relation)) }
+{
+    match relation {
+        Relation::Owner => State::USERS,
+        Relation::Structure => State::AREAS,
+        Relation::Definition | Relation::Import | Relation::Export => State::OBJECTS,
+    }
 }
 
-// Is every number, length, text byte and filler byte in its range?
+// Is every number, length, text byte and filler byte of a table in its range?
+fn is_in_range(bytes: &[u8], table: Table) -> bool
+    ensures { result ≡ content_fits (held table) bytes.now }
+{
+    match table {
+        Table::Pairs(relation) => pair_tables::all_fit(bytes, first_limit(relation)),
+        Table::Labels => label_tables::all_fit(bytes),
+    }
+}
+
+// So it is in each table.
 fn tables_fit(file: &[u8]) -> bool
     ensures { result ≡ tables_fit file.now }
 {
-    pair_tables::all_fit(site_format::owners(file), State::USERS)
-        & pair_tables::all_fit(site_format::definitions(file), State::OBJECTS)
-        & pair_tables::all_fit(site_format::structure(file), State::AREAS)
-        & pair_tables::all_fit(site_format::imports(file), State::OBJECTS)
-        & pair_tables::all_fit(site_format::exports(file), State::OBJECTS)
-        & label_tables::all_fit(site_format::labels(file))
+    Table::all().iter().all(|table| is_in_range(site_format::part(file, *table), *table))
 }
 
-// Is every table strictly ascending?
+// Is a table strictly ascending?
+fn is_ascending(bytes: &[u8], table: Table) -> bool
+    ensures { result ≡ content_ascends (held table) bytes.now }
+{
+    match table {
+        Table::Pairs(_) => pair_tables::all_ascend(bytes),
+        Table::Labels => label_tables::all_ascend(bytes),
+    }
+}
+
+// Is every table?
 fn tables_ascend(file: &[u8]) -> bool
     ensures { result ≡ tables_ascend file.now }
 {
-    pair_tables::all_ascend(site_format::owners(file))
-        & pair_tables::all_ascend(site_format::definitions(file))
-        & pair_tables::all_ascend(site_format::structure(file))
-        & pair_tables::all_ascend(site_format::imports(file))
-        & pair_tables::all_ascend(site_format::exports(file))
-        & label_tables::all_ascend(site_format::labels(file))
+    Table::all().iter().all(|table| is_ascending(site_format::part(file, *table), *table))
 }
 
 // The state that the file holds.
@@ -47,69 +65,50 @@ fn state_in(file: &[u8]) -> State
     ensures { site result ≡ state_in file.now }
 {
     site_tables::state_of(
-        site_format::owners(file),
-        site_format::definitions(file),
-        site_format::structure(file),
-        site_format::imports(file),
-        site_format::exports(file),
+        site_format::part(file, Table::Pairs(Relation::Owner)),
+        site_format::part(file, Table::Pairs(Relation::Definition)),
+        site_format::part(file, Table::Pairs(Relation::Structure)),
+        site_format::part(file, Table::Pairs(Relation::Import)),
+        site_format::part(file, Table::Pairs(Relation::Export)),
     )
 }
 
-// Of the state that a file holds: the refusal 28 or 29, 0 if there is none.
-fn state_refusal(s: State, file: &[u8]) -> u8
-    requires { site s ≡ state_in file.now }
-    ensures { result ≡ first_met (state_checks (site s) (part file.now labels)) }
+// Is what a file holds a sound state, and are its labels of listed areas?
+fn check_state(s: &State, file: &[u8]) -> Result<(), Refusal>
+    requires { site s.now ≡ state_in file.now }
+    ensures { refusal_number result ≡ first_met (state_checks (site s.now) (part file.now labels)) }
 {
     if !inspection::is_well_formed(s) {
-        return 28;
+        return Err(Refusal::FileLists);
     }
-    if !site_tables::labels_listed(s, site_format::labels(file)) {
-        return 28;
+    if !site_tables::labels_listed(s, site_format::part(file, Table::Labels)) {
+        return Err(Refusal::FileLists);
     }
     if !validity::is_valid(s) {
-        return 29;
+        return Err(Refusal::FileLacksAccess);
     }
     if !inspection::has_no_own_import(s) {
-        return 29;
+        return Err(Refusal::FileLacksAccess);
     }
-    0
+    Ok(())
 }
 
-// The reading of a file that is refused with this number.
-fn refused(number: u8) -> Reading
-    ensures { verdict result.refusal (site result.state) ≡ verdict number founding }
+// The state that a file of any bytes holds, or its refusal.
+pub fn read(file: &[u8]) -> Result<State, Refusal>
+    ensures equation { as_verdict result ≡ read_of file.now }
+    ensures sound { Sound (as_state result) }
 {
-    Reading {
-        refusal: number,
-        state: State::founding(),
-    }
-}
-
-// What a file of any bytes holds, or its refusal with the founding state.
-pub fn read(file: &[u8]) -> Reading
-    ensures equation { verdict result.refusal (site result.state) ≡ read_of file.now }
-    ensures sound { Sound (site result.state) }
-{
-    let header = site_header::header_refusal(file);
-    if header != 0 {
-        return refused(header);
-    }
+    site_header::check(file)?;
     let in_range = tables_fit(file);
     let ascending = tables_ascend(file);
     // The lower number is given where both apply.
     if !in_range {
-        return refused(26);
+        return Err(Refusal::FileRange);
     }
     if !ascending {
-        return refused(27);
+        return Err(Refusal::FileOrder);
     }
     let s = state_in(file);
-    let refusal = state_refusal(s, file);
-    if refusal != 0 {
-        return refused(refusal);
-    }
-    Reading {
-        refusal: 0,
-        state: s,
-    }
+    check_state(&s, file)?;
+    Ok(s)
 }

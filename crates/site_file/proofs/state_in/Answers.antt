@@ -9,5 +9,5 @@ pub returns : goal.returns
 unfolding state_in
 returns c =
     c.state_of.ensures
-    ∙ (λ i. state_by (relations_of (c.owners.ensures i) (c.definitions.ensures i)
-    (c.structure.ensures i) (c.imports.ensures i) (c.exports.ensures i)))
+    ∙ (λ i. state_by (relations_of (c.part.ensures i) (c.part-2.ensures i)
+    (c.part-3.ensures i) (c.part-4.ensures i) (c.part-5.ensures i)))

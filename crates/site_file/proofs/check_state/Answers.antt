@@ -1,4 +1,4 @@
--- `site_file::state_refusal` meets its contract: 28 where one of its two tests fails, then 29 where one of its two
+-- `site_file::check_state` meets its contract: 28 where one of its two tests fails, then 29 where one of its two
 -- does.
 -- Assumes nothing.
 use Prim.Native.Nat.{ℕ}
@@ -13,7 +13,7 @@ use Rattle.site_format.specs.Format.{labels, part}
 use Rattle.site_file.specs.Reading.{state_in, no_owner, names_unlisted, defined_twice}
 use Rattle.site_file.proofs.Held.{Derived, derived, shaped}
 use Rattle.site_file.proofs.Formed.{by_record, by_labels}
-use Rattle.site_file.proofs.state_refusal.Goals as goal
+use Rattle.site_file.proofs.check_state.Goals as goal
 
 -- 28 from what was told of the state that a file holds
 module _ (s : Site) (file : List ℕ) (held : s ≡ state_in file) where
@@ -43,7 +43,7 @@ returns-then-not-labels_listed c =
     let told = c.is_well_formed.ensures in
     let formed = c.if-not-is_well_formed.false in
     let unlisted = ap not c.if-not-labels_listed.true in
-    sym (met _ _ (labelled _ _ c.requires true told c.labels_listed.ensures c.labels.ensures formed unlisted))
+    sym (met _ _ (labelled _ _ c.requires true told c.labels_listed.ensures c.part.ensures formed unlisted))
 
 -- 29, from what was told of the state
 by_entries : (s : Site) {valid no_own : Bool} (v w : Bool) → valid ≡ is_valid s → no_own ≡ no_own_import s
@@ -56,7 +56,7 @@ returns-then-not-is_valid c =
     let told = c.is_well_formed.ensures in
     let formed = c.if-not-is_well_formed.false in
     let listed = ap not c.if-not-labels_listed.false in
-    let past = labelled _ _ c.requires false told c.labels_listed.ensures c.labels.ensures formed listed in
+    let past = labelled _ _ c.requires false told c.labels_listed.ensures c.part.ensures formed listed in
     let invalid = by_entries _ true _ c.is_valid.ensures.equation refl (ap not c.if-not-is_valid.true) refl in
     sym (passed _ _ past ∙ met _ _ invalid)
 
@@ -65,7 +65,7 @@ returns-then-not-has_no_own_import c =
     let told = c.is_well_formed.ensures in
     let formed = c.if-not-is_well_formed.false in
     let listed = ap not c.if-not-labels_listed.false in
-    let past = labelled _ _ c.requires false told c.labels_listed.ensures c.labels.ensures formed listed in
+    let past = labelled _ _ c.requires false told c.labels_listed.ensures c.part.ensures formed listed in
     let valid = c.is_valid.ensures.equation in
     let no_own = c.has_no_own_import.ensures.equation in
     let second = ap not c.if-not-has_no_own_import.true in
@@ -77,7 +77,7 @@ returns c =
     let told = c.is_well_formed.ensures in
     let formed = c.if-not-is_well_formed.false in
     let listed = ap not c.if-not-labels_listed.false in
-    let past = labelled _ _ c.requires false told c.labels_listed.ensures c.labels.ensures formed listed in
+    let past = labelled _ _ c.requires false told c.labels_listed.ensures c.part.ensures formed listed in
     let valid = c.is_valid.ensures.equation in
     let no_own = c.has_no_own_import.ensures.equation in
     let second = ap not c.if-not-has_no_own_import.false in
