@@ -26,7 +26,7 @@ fn put_row(out: &mut [u8], at: usize, first: u8, row: u32) -> usize
 }
 
 // Writes the pairs whose first number is below the limit, each row once.
-pub fn put_pairs<'a>(out: &'a mut [u8], at: usize, rows: &'a [u32], limit: u8) -> usize
+pub fn put_pairs(out: &mut [u8], at: usize, rows: &[u32], limit: u8) -> usize
     ensures place { result ≡ place_behind at (table_of limit (pair (cells_of rows.now))) }
     ensures buffer { out.new
         ≡ laid (table_of limit (pair (cells_of rows.now))) at out.old }
@@ -44,7 +44,7 @@ pub fn pair_count(rows: &[u32], limit: u8) -> u16
 {
     let mut n: u16 = 0;
     for first in 0..limit {
-        n = n + bits::size(relations::row_of(rows, first)) as u16;
+        n += bits::size(relations::row_of(rows, first)) as u16;
     }
     n
 }
