@@ -9,7 +9,7 @@ use native.Mathlib.Decide.{ℕ_discrete}
 use borrow.Author.Tests.{eq-eqb, ne_eqb}
 use lib.ListN.{length, get_or, set, length-set}
 use lib.Seq.{get_or-set_same, get_or-set_other}
-use Rattle.bits.specs.Bits.{bit, places, lowest, without_lowest}
+use Rattle.bits.specs.Bits.{bit, places, lowest, without_lowest, Next}
 use Rattle.bits.proofs.Laws.{bit_zero, lowest_is_right, lowest_inside, without_lowest_bit, without_lowest_fits}
 use Rattle.state.proofs.Tabulate.{tabulate_is}
 use Rattle.chain_finder.specs.Parts.{counted_as}
@@ -24,10 +24,13 @@ pub record Counted (n areas : ℕ) (counts₀ : List ℕ) (rest : ℕ) (counts :
   pub each : (a : ℕ) → a < places → counted n rest counts a ≡ counted n areas counts₀ a
 
 module _ (n areas : ℕ) (counts₀ : List ℕ) where
-  pub counted_none : areas < 2 ^ places → length counts₀ ≡ places → Counted n areas counts₀ areas counts₀
-  counted_none fits long = record { left = fits; long = long; each = λ a h. refl }
+  all_left : areas < 2 ^ places → length counts₀ ≡ places → Counted n areas counts₀ areas counts₀
+  all_left fits long = record { left = fits; long = long; each = λ a h. refl }
 
-  pub counted_more : (rest : ℕ) (counts : List ℕ) → (rest ≡ 0 → ⊥) → Counted n areas counts₀ rest counts
+  pub counted_none : {rest : ℕ} → rest ≡ areas → areas < 2 ^ places → length counts₀ ≡ places → Counted n areas counts₀ rest counts₀
+  counted_none e fits long = rw e (all_left fits long)
+
+  counted_more : (rest : ℕ) (counts : List ℕ) → (rest ≡ 0 → ⊥) → Counted n areas counts₀ rest counts
       → Counted n areas counts₀ (without_lowest rest) (set counts (lowest rest) n)
   counted_more rest counts some w =
       record {
@@ -56,6 +59,10 @@ module _ (n areas : ℕ) (counts₀ : List ℕ) where
       step : (a : ℕ) → a < places → Dec (a ≡ low) → counted n (without_lowest rest) (set counts low n) a ≡ counted n rest counts a
       step a h (yes e) = rw e here
       step a h (no ne) = ap₂ (λ (b : Bool) (k : ℕ). cond b n k) (kept a h ne) (get_or-set_other counts low a n 0 ne)
+
+  -- one step of the walk
+  pub counted_next : {rest area left : ℕ} {counts : List ℕ} → Next rest area left → Counted n areas counts₀ rest counts → Counted n areas counts₀ left (set counts area n)
+  counted_next {rest = rest} {counts = counts} t w = rw (t.left_is, t.place_is) (counted_more rest counts t.some w)
 
   pub counted_all : (rest : ℕ) (counts : List ℕ) → rest ≡ 0 → Counted n areas counts₀ rest counts → counts ≡ counted_as n areas counts₀
   unfolding counted_as

@@ -23,12 +23,8 @@ fn count_as(counts: &mut [u8; 32], areas: u32, n: u8)
     requires { length counts.old ≡ 32 }
     ensures { counts.new ≡ counted_as n areas counts.old }
 {
-    let mut rest = areas;
-    while rest != 0 {
-        let area = bits::lowest(rest);
+    for area in bits::places(areas) {
         counts[area as usize] = n;
-        let others = bits::without_lowest(rest);
-        rest = others;
     }
 }
 
@@ -47,8 +43,7 @@ fn counts_of(o: Object, structure: &[u32; 32]) -> [u8; 32]
             return counts;
         }
         count_as(&mut counts, new, n + 1);
-        let all = bits::union(reached, new);
-        reached = all;
+        reached = bits::union(reached, new);
         layer = new;
     }
     counts
@@ -109,8 +104,7 @@ pub fn put_chain(s: &State, area: u8, object: u8, out: &mut [u8]) -> usize
         if bits::is_empty(row) {
             return 0;
         }
-        let before = search::next_alone(row, &s.structure, o.exported, o.imported);
-        row = before;
+        row = search::next_alone(row, &s.structure, o.exported, o.imported);
     }
     0
 }

@@ -17,14 +17,10 @@ use state::State;
 fn first_area(areas: u32, counts: &[u8; 32]) -> Option<u8>
     ensures { result ≡ found_below 32 (λ a. bit areas a && eqb (get_or counts.now a 0) unreached) }
 {
-    let mut rest = areas;
-    while rest != 0 {
-        let area = bits::lowest(rest);
+    for area in bits::places(areas) {
         if counts[area as usize] == chain_finder::UNREACHED {
             return Some(area);
         }
-        let others = bits::without_lowest(rest);
-        rest = others;
     }
     None
 }

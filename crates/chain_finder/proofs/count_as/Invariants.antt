@@ -1,10 +1,9 @@
--- `chain_finder::count_as` meets its contract. The loop's invariant: the counts, with the areas of `rest` still to be counted, are those of the row.
+-- `chain_finder::count_as` meets its contract. The loop's invariant: the counts, with the areas that are left still to be counted, are those of the row.
 -- Assumes nothing.
 use Rattle.chain_finder.proofs.Counting.{Counted}
 use Rattle.chain_finder.proofs.count_as.Given as goal
 
-abbrev pub invariant-loop-rest : goal.invariant-loop-rest
-invariant-loop-rest l = Counted l.n l.areas l.initial.counts l.rest l.counts
-
-abbrev pub decreases-loop-rest : goal.decreases-loop-rest
-decreases-loop-rest l = l.rest
+abbrev pub invariant-loop-area : goal.invariant-loop-area
+invariant-loop-area l =
+    (goal.iterator-loop-area).can_next l.area-iterator × (goal.iterator-loop-area).is_finite l.area-iterator
+    × Counted l.n l.areas l.initial.counts (l.area-iterator).rest l.counts

@@ -45,7 +45,7 @@ loop-n-preserved c =
     let inv = c.loop-n.invariant in (
       omega arith,
       new_layer at.After-difference-new ∙ ap (layer_row _ _) (sym (add-one _)),
-      reach _ _ _ _ _ _ inv.2 (new_layer at.After-difference-new) c.union-all.ensures,
+      reach _ _ _ _ _ _ inv.2 (new_layer at.After-difference-new) c.union-reached.ensures,
       next_counts _ _ _ _ _ _ c.loop-n-test.true (new_layer at.After-difference-new) inv.3 c.count_as-in-loop-n.ensures,
     )
 

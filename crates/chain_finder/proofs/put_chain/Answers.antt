@@ -46,7 +46,7 @@ loop-n-preserved c =
     let inv = c.loop-n.invariant in
     let below = c.loop-n-test.true in
     let far = tried_open _ _ _ _ _ _ _ _ below inv.2 _ _ _ c.intersection-starts.ensures c.is_empty.ensures (ap not c.if-not-is_empty.false) in
-    (omega arith, inv.1, tried_more _ _ _ _ _ _ _ _ below inv.2 _ far c.next_alone-before.ensures)
+    (omega arith, inv.1, tried_more _ _ _ _ _ _ _ _ below inv.2 _ far c.next_alone-row.ensures)
 
 pub returns-then-is_empty : goal.returns-then-is_empty
 unfolding site
