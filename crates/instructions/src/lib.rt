@@ -113,6 +113,7 @@ fn picked(code: u8) -> Option<Instruction>
     ensures { result ≡ instruction_of code }
 {
     match code {
+        0 | 13..=255 => None,
         1 => Some(Instruction::ListArea),
         2 => Some(Instruction::UnlistArea),
         3 => Some(Instruction::AddOwner),
@@ -125,7 +126,6 @@ fn picked(code: u8) -> Option<Instruction>
         10 => Some(Instruction::RemoveImport),
         11 => Some(Instruction::AddExport),
         12 => Some(Instruction::RemoveExport),
-        _ => None,
     }
 }
 
