@@ -10,15 +10,12 @@ ghost use Rattle.state.specs.Stands.{site};
 use state::State;
 
 // How many numbers or pairs do the rows hold? No set or relation has more than 64 rows.
+#[tactic(auto, using(crate::proofs::Sizes::count_is_sum))]
 fn count(rows: &[u32]) -> usize
     requires { length rows.now ≤ 64 }
     ensures { result ≡ count (cells_of rows.now) }
 {
-    let mut n: usize = 0;
-    for i in 0..rows.len() {
-        n = n + bits::size(rows[i]) as usize;
-    }
-    n
+    rows.iter().map(|row| bits::size(*row) as usize).sum()
 }
 
 // How many users, areas, objects, owner, structure, import and export pairs are there?

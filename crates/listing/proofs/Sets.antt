@@ -1,34 +1,57 @@
--- A set of 32 numbers is one row, and one of 64 is two.
+-- A set of numbers that are the first of a pair, row by row.
 -- Assumes nothing.
-use Prim.Native.Nat.{ℕ, zero, suc, ◌+◌, ◌*◌, ◌<◌}
-use mathlib.Core.Path.{◌≡◌, refl, sym, ap, ◌∙◌}
-use mathlib.Core.Bool.{Bool}
+use Prim.Native.Nat.{ℕ, zero, suc, ◌+◌, ◌-◌, ◌*◌, ◌^◌, ◌≤◌, ◌<◌}
+use mathlib.Core.Path.{◌≡◌, refl, sym, ap, subst, ◌∙◌}
+use mathlib.Core.Bool.{Bool, not}
 use mathlib.Core.List.{[], ◌∷◌}
 use native.Mathlib.Omega.{arith}
 use native.Mathlib.Nat.{zero-add}
-use lib.ListN.{get_or}
-use Rattle.bits.specs.Bits.{places, word}
-use Rattle.bits.specs.Rows.{cells_of}
+use lib.ListN.{length, get_or, take, drop}
+use lib.Seq.{get_or-drop, drop-drop}
+use Rattle.std.proofs.Common.{min}
+use Rattle.std.proofs.lemmas.List.{take_all, drop_min, length-drop}
+use Rattle.bits.specs.Bits.{places, word, is_empty}
+use Rattle.bits.specs.Rows.{Rows, cells_of, Fit}
 use Rattle.bits.proofs.Laws.{same_word}
 use Rattle.state.specs.Tabulate.{tabulate}
-use Rattle.relations.proofs.Laws.{rows_of_test}
+use Rattle.state.specs.Walk.{has_first}
+use Rattle.state.proofs.Fill.{Filled}
+use Rattle.relations.proofs.Laws.{row_empty, rows_of_test}
+use Rattle.relations.specs.Relations.{firsts}
 
--- numbers from 0 on
-pub from_zero : (test : ℕ → Bool) → word places (λ j. test (0 + j)) ≡ word places test
-from_zero test = same_word places _ _ (λ j h. ap test (zero-add j))
+-- row i of the numbers that are the first of some pair
+abbrev pub firsts_row : Rows → ℕ → ℕ
+firsts_row rows i = word places (λ j. has_first (cells_of rows) (i * places + j))
+
+-- the numbers of the rows that are left
+pub row_of_rest : (rows rest : Rows) (i : ℕ) → Fit rows → rest ≡ drop (i * places) rows → word places (has_first (cells_of rest)) ≡ firsts_row rows i
+row_of_rest rows rest i fit e = same_word places _ _ (λ j h. rw e (at j))
+  where
+    at : (j : ℕ) → has_first (cells_of (drop (i * places) rows)) j ≡ has_first (cells_of rows) (i * places + j)
+    at j =
+        let same = get_or-drop (i * places) rows j 0 in
+        sym (row_empty (drop (i * places) rows) j (subst (λ (n : ℕ). n < 2 ^ places) (sym same) (fit (i * places + j))))
+        ∙ ap (λ (n : ℕ). not (is_empty n)) same ∙ row_empty rows (i * places + j) (fit (i * places + j))
+
+-- what is left behind 32 rows, where there are so many
+pub behind : (rest : Rows) (m : ℕ) → m ≡ min (length rest) places → take (length rest - m) (drop m rest) ≡ drop places rest
+behind rest m e =
+    let same : m ≡ min places (length rest) = omega (arith, e) in
+    take_all (length rest - m) (drop m rest) (omega (arith, length-drop m rest)) ∙ ap (λ (n : ℕ). drop n rest) same ∙ drop_min places rest
+
+-- one row further
+pub further : (rows rest left : Rows) (i : ℕ) → rest ≡ drop (i * places) rows → left ≡ drop places rest → left ≡ drop ((i + 1) * places) rows
+further rows rest left i e f =
+    let next : i * places + places ≡ (i + 1) * places = omega arith in
+    f ∙ ap (drop places) e ∙ drop-drop places (i * places) rows ∙ ap (λ (n : ℕ). drop n rows) next
+
+pub all_rows : (n i : ℕ) (rows out : Rows) → n ≤ i → Filled (firsts_row rows) 0 n i out → cells_of out ≡ firsts (n * places) (cells_of rows)
+unfolding firsts
+all_rows n i rows out h w = rows_of_test n (has_first (cells_of rows)) out w.long (λ k l. w.front k (omega arith))
 
 pub one_row : (test : ℕ → Bool) (row : ℕ) → row ≡ word places test → cells_of (row ∷ []) ≡ tabulate 32 test
 one_row test row e = rows_of_test 1 test (row ∷ []) refl each
   where
     each : (i : ℕ) → i < 1 → get_or (row ∷ []) i 0 ≡ word places (λ j. test (i * places + j))
-    each zero h = e ∙ sym (from_zero test)
+    each zero h = e ∙ sym (same_word places _ _ (λ j h. ap test (zero-add j)))
     each (suc i) h = absurd (omega arith)
-
-pub two_rows : (test : ℕ → Bool) (low high : ℕ) → low ≡ word places (λ j. test (0 + j)) → high ≡ word places (λ j. test (32 + j))
-    → cells_of (low ∷ high ∷ []) ≡ tabulate 64 test
-two_rows test low high e f = rows_of_test 2 test (low ∷ high ∷ []) refl each
-  where
-    each : (i : ℕ) → i < 2 → get_or (low ∷ high ∷ []) i 0 ≡ word places (λ j. test (i * places + j))
-    each zero h = e
-    each (suc zero) h = f
-    each (suc (suc i)) h = absurd (omega arith)

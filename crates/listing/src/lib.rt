@@ -1,37 +1,34 @@
 // The numbers that the pairs of a relation name, as a set.
 #![tactic(auto)]
 
-ghost use Rattle.std.specs.Prelude.{◌≡◌, ◌+◌, ◌≤◌};
+ghost use Rattle.std.specs.Prelude.{◌≡◌, ◌*◌};
 ghost use Rattle.bits.specs.Bits.{word};
 ghost use Rattle.bits.specs.Rows.{cells_of};
-ghost use Rattle.listing.specs.Parts.{first_from};
+ghost use Rattle.state.specs.Walk.{has_first};
 ghost use Rattle.relations.specs.Relations.{firsts, seconds};
 
-// Of the 32 numbers from `from` on, those that are the first of some pair.
-fn firsts_from(rows: &[u32], from: u8) -> u32
-    requires { from ≤ 32 }
-    ensures { result ≡ word 32 (first_from (cells_of rows.now) from) }
+// The numbers below 32 that are the first of some pair, as a row.
+fn firsts_of(rows: &[u32]) -> u32
+    ensures { result ≡ word 32 (has_first (cells_of rows.now)) }
 {
     let mut out: u32 = 0;
     for k in 0..32u8 {
-        let more = bits::with_bit(out, k, relations::in_row(rows, from + k));
-        out = more;
+        out = bits::with_bit(out, k, relations::in_row(rows, k));
     }
     out
 }
 
-// The numbers below 32 that are the first of some pair.
-pub fn firsts_32(rows: &[u32]) -> [u32; 1]
-    ensures { cells_of result ≡ firsts 32 (cells_of rows.now) }
+// The numbers below N * 32 that are the first of some pair.
+pub fn firsts<const N: usize>(rows: &[u32]) -> [u32; N]
+    ensures { cells_of result ≡ firsts (N * 32) (cells_of rows.now) }
 {
-    [firsts_from(rows, 0)]
-}
-
-// The numbers below 64 that are the first of some pair.
-pub fn firsts_64(rows: &[u32]) -> [u32; 2]
-    ensures { cells_of result ≡ firsts 64 (cells_of rows.now) }
-{
-    [firsts_from(rows, 0), firsts_from(rows, 32)]
+    let mut out = [0; N];
+    let mut rest = rows;
+    for row in out.iter_mut() {
+        *row = firsts_of(rest);
+        rest = &rest[rest.len().min(32)..];
+    }
+    out
 }
 
 // The areas that are the second of some pair.
