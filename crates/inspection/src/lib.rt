@@ -36,8 +36,8 @@ fn users_fit(owners: &[u32; 32], users: u32, areas: u32) -> bool
     ensures { result ≡ each_below 32 (user_at owners.now users areas) }
 {
     let mut fits = true;
-    for u in 0..32u8 {
-        fits = fits & user_fits(owners[u as usize], bits::is_set(users, u), areas);
+    for (u, owned) in owners.iter().enumerate() {
+        fits &= user_fits(*owned, bits::is_set(users, u as u8), areas);
     }
     fits
 }
@@ -47,8 +47,8 @@ fn areas_fit(structure: &[u32; 32], areas: u32) -> bool
     ensures { result ≡ each_below 32 (area_at structure.now areas) }
 {
     let mut fits = true;
-    for a in 0..32u8 {
-        fits = fits & is_named(structure[a as usize], bits::is_set(areas, a), areas);
+    for (a, outer) in structure.iter().enumerate() {
+        fits &= is_named(*outer, bits::is_set(areas, a as u8), areas);
     }
     fits
 }
@@ -72,7 +72,7 @@ fn objects_fit(s: &State, from: usize, objects: u32, areas: u32) -> bool
     for k in 0..32u8 {
         let o = from + k as usize;
         let listed = bits::is_set(objects, k);
-        fits = fits & object_fits(s.definitions[o], s.imports[o], s.exports[o], listed, areas);
+        fits &= object_fits(s.definitions[o], s.imports[o], s.exports[o], listed, areas);
     }
     fits
 }
@@ -102,8 +102,8 @@ fn are_disjoint<'a>(these: &'a [u32; 64], those: &'a [u32; 64]) -> bool
     ensures { result ≡ each_below 64 (apart_at these.now those.now) }
 {
     let mut apart = true;
-    for o in 0..64usize {
-        apart = apart & bits::is_empty(bits::intersection(these[o], those[o]));
+    for (this, that) in these.iter().zip(those) {
+        apart &= bits::is_empty(bits::intersection(*this, *that));
     }
     apart
 }

@@ -1,13 +1,9 @@
 -- `inspection::areas_fit` meets its contract. The loop's invariant: what fits so far is whether the pairs of each of the first a areas do.
 -- Assumes nothing.
-use Prim.Native.Nat.{◌-◌, ◌≤◌}
 use mathlib.Core.Path.{◌≡◌}
 use Rattle.state.specs.Below.{each_below}
 use Rattle.inspection.specs.Parts.{area_at}
 use Rattle.inspection.proofs.areas_fit.Given as goal
 
 abbrev pub invariant-loop-a : goal.invariant-loop-a
-invariant-loop-a l = (l.a ≤ 32) × (l.fits ≡ each_below l.a (area_at l.structure l.areas))
-
-abbrev pub decreases-loop-a : goal.decreases-loop-a
-decreases-loop-a l = 32 - l.a
+invariant-loop-a l = l.fits ≡ each_below l.a (area_at l.structure l.areas)

@@ -3,7 +3,6 @@
 use Prim.Native.Nat.{ℕ}
 use mathlib.Core.Path.{◌≡◌, sym, ap, ◌∙◌}
 use mathlib.Core.Bool.{Bool}
-use native.Mathlib.Omega.{arith}
 use lib.ListN.{get_or}
 use Rattle.bits.specs.Bits.{bit}
 use Rattle.bits.specs.Rows.{Rows}
@@ -12,7 +11,7 @@ use Rattle.inspection.specs.Parts.{user_fits, user_at}
 use Rattle.inspection.proofs.users_fit.Goals as goal
 
 pub loop-u-init : goal.loop-u-init
-loop-u-init c = (omega arith, sym (each_none _))
+loop-u-init c = sym (each_none _)
 
 -- one user, by what the calls promise
 at_user : (owners : Rows) (users areas u : ℕ) (listed new : Bool) → listed ≡ bit users u → new ≡ user_fits (get_or owners u 0) listed areas
@@ -22,4 +21,4 @@ at_user owners users areas u listed new e p = p ∙ ap (λ (b : Bool). user_fits
 pub loop-u-preserved : goal.loop-u-preserved
 loop-u-preserved c =
     let x = c.args in
-    (omega arith, each_step _ _ _ _ c.loop-u.invariant.1 (at_user x.owners.now x.users x.areas _ _ _ c.is_set.ensures c.user_fits-fits.ensures))
+    each_step _ _ _ _ c.loop-u.invariant (at_user x.owners.now x.users x.areas _ _ _ c.is_set.ensures c.user_fits-fits.ensures)
