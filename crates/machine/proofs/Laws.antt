@@ -1,5 +1,6 @@
 -- The claims of specs/Claims.antt and the laws of specs/Laws.antt, each proved under its name.
 -- Assumes nothing.
+use Rattle.std.proofs.Common.{Ok, Err}
 use Prim.Native.Nat.{ℕ}
 use mathlib.Core.Path.{refl, sym, ap, ◌∙◌}
 use mathlib.Core.Bool.{Bool, true, false, not, cond}
@@ -11,18 +12,15 @@ use Rattle.state.proofs.Bools.{not_so, holds}
 use Rattle.state.proofs.Checks.{each_of, first_meets, among_meets, none_met_at, met, passed}
 use Rattle.state.specs.Checks.{◌when◌, first_met, among, each_number, numbered}
 use Rattle.access.specs.Lending.{lending}
-use Rattle.access.specs.Answer.{answer}
-use Rattle.access.specs.declared.Answer.{Answer}
+use Rattle.access.specs.Answer.{Answer, answer}
 use Rattle.access.proofs.Laws.{answer_is_right}
 use Rattle.soundness.specs.Tests.{is_sound}
 use Rattle.successors.specs.Successor.{successor_of}
 use Rattle.instructions.specs.Instructions.{Bytes}
-use Rattle.instructions.specs.Decode.{decode_of, misfits}
-use Rattle.instructions.specs.declared.Decoded.{Decoded}
-use Rattle.instructions.specs.declared.Decoded.TheVariants.{Fits, NoCode, OutOfRange}
+use Rattle.instructions.specs.Decode.{Decoded, decode_of, misfits}
 use Rattle.refusals.specs.Refusals.{checks_of, further_refusals, refusals, step_numbers}
 use Rattle.machine.specs.Step.{step_refusal, step_of, run, refused_or, reply_of, question_refusals, AnswerMeans}
-use Rattle.machine.specs.declared.Reply.TheVariants.{Refused, Answered}
+use Rattle.machine.specs.Step.{Refused, Answered}
 use Rattle.machine.specs.Claims
 use Rattle.machine.specs.Laws
 
@@ -32,9 +30,8 @@ a_number n = among n (0 ∷ step_numbers)
 
 each : (s : Site) (bytes : Bytes) (d : Decoded) → T (each_number a_number (misfits d ++ checks_of s bytes d))
 unfolding a_number
-each s bytes (Fits x) = tt
-each s bytes NoCode = tt
-each s bytes OutOfRange = tt
+each s bytes (Ok x) = tt
+each s bytes (Err refusal) = tt
 
 pub refusal_numbers : Claims.RefusalNumbers
 unfolding a_number step_of step_refusal
@@ -51,9 +48,8 @@ pub two_digits : Laws.TwoDigits
 two_digits s bytes = ltb→lt (step_of s bytes).refusal 100 (number_meets (λ n. ltb n 100) tt s bytes)
 
 all_numbered : (s : Site) (bytes : Bytes) (d : Decoded) → T (numbered (misfits d ++ checks_of s bytes d))
-all_numbered s bytes (Fits x) = tt
-all_numbered s bytes NoCode = tt
-all_numbered s bytes OutOfRange = tt
+all_numbered s bytes (Ok x) = tt
+all_numbered s bytes (Err refusal) = tt
 
 pub accepted_meets_none : Claims.AcceptedMeetsNone
 unfolding step_of step_refusal
@@ -77,9 +73,8 @@ not_twelve n = not (eqb n 12)
 
 each_other : (s : Site) (bytes : Bytes) (d : Decoded) → T (each_number not_twelve (misfits d ++ checks_of s bytes d))
 unfolding not_twelve
-each_other s bytes (Fits x) = tt
-each_other s bytes NoCode = tt
-each_other s bytes OutOfRange = tt
+each_other s bytes (Ok x) = tt
+each_other s bytes (Err refusal) = tt
 
 pub sound_never_twelve : Laws.SoundNeverTwelve
 unfolding not_twelve

@@ -9,10 +9,9 @@ use Rattle.instructions.specs.Instructions.{Bytes}
 use Rattle.instructions.specs.Decode.{decode_of}
 use Rattle.successors.specs.Successor.{successor_of}
 use Rattle.refusals.specs.Refusals.{refusals}
-use Rattle.machine.specs.Step.{step_refusal, step_of, run, question_refusals, refused_or, reply_of}
-use Rattle.machine.specs.declared.Reply.TheVariants.{Refused}
+use Rattle.machine.specs.Step.{step_refusal, step_of, run, question_refusals, Refused, refused_or, reply_of}
 
--- the number of a step is `step_refusal`, which `machine::refusal` promises
+-- the number of a step is `step_refusal`, which `machine::check` promises
 abbrev pub NumberIsRefusal : Type 0
 NumberIsRefusal = (s : Site) (bytes : Bytes) → (step_of s bytes).refusal ≡ step_refusal s bytes
 

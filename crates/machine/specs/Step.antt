@@ -1,18 +1,17 @@
 -- The step, the list of steps, and the access question.
-use Rattle.std.specs.Prelude.{ℕ, ◌≡◌, not, ◌&&◌, cond, List, [], ◌∷◌, eqb, ltb}
+use Rattle.std.specs.Prelude.{ℕ, ◌≡◌, not, ◌&&◌, cond, Result, Ok, Err, List, [], ◌∷◌, eqb, ltb}
+use Rattle.verdicts.specs.Refusals.{number}
+use Rattle.verdicts.specs.declared.Refusal.{Refusal}
 use Rattle.state.specs.Site.{Site, area, object, limit, listed, Verdict, verdict}
 use Rattle.access.specs.Lending.{lending}
-use Rattle.access.specs.Answer.{answer, unreached, answer_number}
+use Rattle.access.specs.Answer.{Answer, answer, unreached, answer_number}
 use Rattle.access.specs.Claims.{Right}
-use Rattle.access.specs.declared.Answer.{Answer}
 use Rattle.soundness.specs.Tests.{is_sound}
 use Rattle.instructions.specs.Instructions.{Bytes}
 use Rattle.instructions.specs.Decode.{decode_of}
 use Rattle.successors.specs.Successor.{successor_of}
 use Rattle.state.specs.Checks.{Check, ◌when◌, first_met}
 use Rattle.refusals.specs.Refusals.{refusals}
-use Rattle.machine.specs.declared.Reply.{Reply}
-use Rattle.machine.specs.declared.Reply.TheVariants.{Refused, Answered}
 
 -- ---- the step
 -- the number of the refusal, 0 for an instruction that is accepted
@@ -49,6 +48,16 @@ question_refusals s a b =
 
 abbrev pub question_numbers : List ℕ
 question_numbers = 12 ∷ 2 ∷ 4 ∷ []
+
+-- the number of the question's refusal, or the answer
+pub data Reply : Type 0 where
+  Refused : ℕ → Reply
+  Answered : Answer → Reply
+
+-- the reply that the code's result stands for
+abbrev pub as_reply : Result Answer Refusal → Reply
+as_reply (Ok x) = Answered x
+as_reply (Err refusal) = Refused (number refusal)
 
 -- the refusal with its number, or with none, which is 0, the answer
 abbrev pub refused_or : (n : ℕ) → Answer → Reply

@@ -1,95 +1,61 @@
-// The machine: any four bytes with any record get one successor state or one refusal number.
+// The machine: any four bytes with any record get one successor state or one refusal.
 #![tactic(auto)]
 
 ghost use Rattle.std.specs.Prelude.{◌≡◌};
+ghost use Rattle.verdicts.specs.Refusals.{refusal_number};
 ghost use Rattle.state.specs.Site.{verdict};
 ghost use Rattle.state.specs.Stands.{site};
 ghost use Rattle.access.specs.Lending.{lending};
 ghost use Rattle.access.specs.Answer.{answer, answer_number};
-ghost use Rattle.instructions.specs.Instructions.{four_bytes};
 ghost use Rattle.state.specs.Checks.{first_met};
-ghost use Rattle.machine.specs.Step.{step_refusal, step_of};
+ghost use Rattle.machine.specs.Step.{step_refusal, step_of, as_reply};
 ghost use Rattle.machine.specs.Step.{question_refusals, reply_of, reply_number, reply_value, AnswerMeans};
 
-use access::Answer;
-use instructions::Decoded;
+use instructions::Bytes;
 use state::State;
+use verdicts::Refusal;
 
-// The refusal, 0 for none, and the state after the instruction.
-#[derive(Drop)]
-pub struct Outcome {
-    pub refusal: u8,
-    pub state: State,
-}
-
-// The answer to the access question, or its refusal.
-#[derive(Drop)]
-pub enum Reply {
-    Refused(u8),
-    Answered(Answer),
-}
-
-// The outcome with this number and state.
-fn outcome_of(refusal: u8, state: State) -> Outcome
-    ensures { verdict result.refusal (site result.state) ≡ verdict refusal (site state) }
+// The refusal that four bytes get with a record, both of any content.
+pub fn check(s: &State, bytes: Bytes) -> Result<(), Refusal>
+    ensures { refusal_number result ≡ step_refusal (site s.now) bytes }
 {
-    Outcome {
-        refusal: refusal,
-        state: state,
+    if inspection::is_sound(s) {
+        let x = instructions::decode(bytes)?;
+        refusals::check(s, x, bytes.activator, bytes.a, bytes.b)
+    } else {
+        Err(Refusal::UnsoundState)
     }
 }
 
-// The number of the refusal that four bytes get with a record, both of any content; 0 for an instruction that is
-// accepted.
-pub fn refusal(s: State, code: u8, activator: u8, a: u8, b: u8) -> u8
-    ensures { result ≡ step_refusal (site s) (four_bytes code activator a b) }
+// What four bytes do with a record, both of any content. A refusal leaves the record as it is.
+pub fn step(s: &mut State, bytes: Bytes) -> Result<(), Refusal>
+    ensures { verdict (refusal_number result) (site s.new) ≡ step_of (site s.old) bytes }
+{
+    check(s, bytes)?;
+    *s = successors::next(s, bytes);
+    Ok(())
+}
+
+// In how many steps has area a access to object b, if it has? Any record, and any numbers: 256 is no area, and not area
+// 0. The refusal is the first that is met; an answer is that of the access layer.
+#[tactic(auto, unfolding(state::specs::Checks::first_met, crate::specs::Step::reply_of))]
+pub fn ask(s: &State, a: u32, b: u32) -> Result<Option<u8>, Refusal>
+    ensures equation { as_reply result ≡ reply_of (site s.now) a b }
+    ensures number { reply_number (as_reply result) ≡ first_met (question_refusals (site s.now) a b) }
+    ensures value { reply_number (as_reply result) ≡ 0
+        → reply_value (as_reply result) ≡ answer_number (answer (lending (site s.now) b) a) }
+    ensures meaning { AnswerMeans (site s.now) a b (as_reply result) }
 {
     if !inspection::is_sound(s) {
-        return 12;
-    }
-    let decoded = instructions::decode(code, activator, a, b);
-    let Decoded::Fits(x) = decoded else {
-        return instructions::misfit(decoded);
-    };
-    refusals::refusal_of(s, x, activator, a, b)
-}
-
-// What four bytes give with a record, both of any content.
-pub fn step(s: State, code: u8, activator: u8, a: u8, b: u8) -> Outcome
-    ensures { verdict result.refusal (site result.state) ≡ step_of (site s) (four_bytes code activator a b) }
-{
-    let number = refusal(s, code, activator, a, b);
-    if number != 0 {
-        return outcome_of(number, s);
-    }
-    outcome_of(0, successors::next(s, code, activator, a, b))
-}
-
-// In how many steps has area a access to object b? Any record, and any numbers: 256 is no area, and not area 0. The
-// reply's number is the first refusal that is met, 0 for none; its value is then that of the access layer's answer.
-pub fn ask(s: State, a: u32, b: u32) -> Reply
-    ensures equation { result ≡ reply_of (site s) a b }
-    ensures number { reply_number result ≡ first_met (question_refusals (site s) a b) }
-    ensures value { reply_number result ≡ 0 → reply_value result ≡ answer_number (answer (lending (site s) b) a) }
-    ensures meaning { AnswerMeans (site s) a b result }
-{
-    if !inspection::is_sound(s) {
-        return Reply::Refused(12);
+        return Err(Refusal::UnsoundState);
     }
     if !((a < State::AREAS as u32) & (b < State::OBJECTS as u32)) {
-        return Reply::Refused(2);
+        return Err(Refusal::OutOfRange);
     }
     let area = a as u8;
     let object = b as u8;
     if !readings::are_listed(s, area, object) {
-        return Reply::Refused(4);
+        return Err(Refusal::NotListed);
     }
-    Reply::Answered(search::steps(
-        &s.definitions,
-        &s.structure,
-        &s.imports,
-        &s.exports,
-        area,
-        object,
-    ))
+    Ok(search::steps(s, area, object))
 }
