@@ -1,14 +1,15 @@
 -- The claims of specs/Claims.antt and the laws of specs/Laws.antt, each proved under its name.
 -- Assumes nothing.
 use Prim.Native.Nat.{ℕ, ◌+◌, ◌*◌, ◌≤◌, ◌<◌}
+use Rattle.std.proofs.Common.{Some, None}
 use mathlib.Core.Path.{◌≡◌, refl, sym, ap, ◌∙◌}
 use mathlib.Core.Logic.{◌⊎◌, inl, inr}
-use mathlib.Core.Bool.{false}
+use mathlib.Core.Bool.{Bool, true, false, cond}
 use mathlib.Core.List.{List}
 use native.Mathlib.Omega.{arith}
 use native.Mathlib.Decide.{dec_lt, ℕ_discrete}
-use borrow.Author.Tests.{ne_eqb}
-use lib.Dec.{T}
+use borrow.Author.Tests.{ne_eqb, eqb-false}
+use lib.Dec.{T, eqb}
 use lib.ListN.{length, get_or, take, drop, length-take, length-drop}
 use lib.Seq.{get_or-take, get_or-drop, ext_get_or}
 use Rattle.state.proofs.Bools.{fails, test}
@@ -18,11 +19,11 @@ use Rattle.label_tables.proofs.Laws.{label_found, label_there, label_area_fits, 
 use Rattle.site_format.specs.Format.{labels, offset_in, size_in, part}
 use Rattle.site_file.specs.Reading.{file_refusal}
 use Rattle.site_file.proofs.Checked.{checked, sized, lies}
-use Rattle.label_finder.specs.Finder.{has_label, text_at, text_length, label_text, block_at, block_length}
+use Rattle.label_finder.specs.Finder.{has_label, text_at, text_length, place_of, label_text, block_at, block_length, block_place, place_or_front}
 use Rattle.label_finder.specs.Claims
 use Rattle.label_finder.specs.Laws
 use Rattle.label_finder.specs.Claims.{AtFront}
-use Rattle.label_finder.proofs.Texts.{entry, found, front, no_refusal, an_entry, labelled}
+use Rattle.label_finder.proofs.Texts.{same_place, entry, found, front, no_refusal, an_entry, labelled}
 
 at_front : (file : List ℕ) (a : ℕ) → (T (has_label file a) → ⊥) → AtFront file a
 at_front file a f =
@@ -165,3 +166,18 @@ block_small file bytes = go (ℕ_discrete (file_refusal file) 0)
         let k = checked file e in
         omega (arith, block_found file e, (lies file k labels).1, k.length_stated, bytes 2, bytes 3)
     go (no ne) = let f = no_block_refused file ne in rw (f.0, f.1) (omega arith)
+
+-- ---- what is answered
+pub found_place_lem : Laws.FoundPlace
+found_place_lem file a = go (has_label file a) refl
+  where
+    go : (b : Bool) → has_label file a ≡ b → place_or_front (cond b (Some (place_of file a)) None) ≡ place_of file a
+    go true e = refl
+    go false e = let f = front file a (fails e) in same_place (sym f.0) (sym f.1)
+
+pub found_block_lem : Laws.FoundBlock
+found_block_lem file = go (eqb (file_refusal file) 0) refl
+  where
+    go : (b : Bool) → eqb (file_refusal file) 0 ≡ b → place_or_front (cond b (Some (block_place file)) None) ≡ block_place file
+    go true e = refl
+    go false e = let f = no_block_refused file (eqb-false (file_refusal file) 0 e) in same_place (sym f.0) (sym f.1)

@@ -1,8 +1,11 @@
--- The text of a label: where it is and how long, with a label and without; and a place by its two parts.
+-- The text of a label: where it is and how long, with a label and without; a place by its two parts;
+-- and an answer by its test.
 -- Assumes nothing.
 use Prim.Native.Nat.{ℕ, ◌+◌, ◌*◌, ◌<◌}
 use mathlib.Core.Path.{◌≡◌, refl}
+use mathlib.Core.Bool.{Bool, true, false, cond}
 use mathlib.Core.List.{List}
+use Rattle.std.proofs.Common.{Some, None}
 use lib.Dec.{T, eqb, ltb, eqb→eq, ltb→lt, lt→ltb}
 use Rattle.state.proofs.Bools.{and_both, and_left, and_right, is_true, is_false}
 use Rattle.label_tables.specs.Labels.{label_count, label_length, label_index}
@@ -13,6 +16,15 @@ use Rattle.label_finder.specs.declared.Place.{Place}
 
 pub same_place : {at length m n : ℕ} → at ≡ m → length ≡ n → ◌≡◌ {A = Place} (record { at = at; length = length }) (record { at = m; length = n })
 same_place e f i = record { at = e i; length = f i }
+
+-- what an answer says of the test behind it
+pub found_some : {A : Type 0} (b : Bool) (x y : A) → Some x ≡ cond b (Some y) None → (b ≡ true) × (x ≡ y)
+found_some true x y e = (refl, cc)
+found_some false x y e = cc
+
+pub found_none : {A : Type 0} (b : Bool) (y : A) → None ≡ cond b (Some y) None → b ≡ false
+found_none true y e = cc
+found_none false y e = refl
 
 module _ (file : List ℕ) (a : ℕ) where
   -- the entry that is looked up

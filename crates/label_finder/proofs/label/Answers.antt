@@ -1,31 +1,38 @@
--- `label_finder::label` meets its contract: the part that stands at the label's place.
+-- `label_finder::label` meets its contract: the part that stands at the label's place, or at the front.
 -- Assumes nothing.
-use Prim.Native.Nat.{ℕ, min}
-use mathlib.Core.Path.{◌≡◌, ap, ap₂, ◌∙◌}
+use Rattle.std.proofs.Common.{ℕ, min, Some, None}
+use mathlib.Core.Path.{◌≡◌, sym, ap, ◌∙◌}
 use mathlib.Core.List.{List}
 use native.Mathlib.Omega.{arith}
-use lib.ListN.{length, take, drop}
+use lib.ListN.{length}
 use Rattle.site_format.specs.Format.{behind}
-use Rattle.label_finder.specs.Finder.{text_at, place_of, label_text}
+use Rattle.label_finder.specs.Finder.{text_at, found_place}
+use Rattle.label_finder.specs.Claims.{AtFront}
 use Rattle.label_finder.specs.declared.Place.{Place}
-use Rattle.label_finder.proofs.Laws.{label_inside}
+use Rattle.label_finder.proofs.Laws.{label_inside, no_label_at_front}
+use Rattle.label_finder.proofs.Texts.{found_some, found_none}
 use Rattle.label_finder.proofs.label.Goals as goal
 
-abbrev start : Place → ℕ
-start p = p.at
+module _ (file : List ℕ) (a : ℕ) where
+  -- the part begins where the text does
+  starts : {p : Place} → Some p ≡ found_place file a → min p.at (length file) ≡ text_at file a
+  starts e =
+      let at = ap (λ (q : Place). q.at) (found_some _ _ _ e).1 in
+      omega (arith, at, label_inside file a)
 
-abbrev size : Place → ℕ
-size p = p.length
+  at_front : None ≡ found_place file a → AtFront file a
+  at_front e = no_label_at_front file a (found_none _ _ e)
 
--- both promises, from the part that was taken
-placed : (file : List ℕ) (a : ℕ) (front : ℕ × ℕ) (p : Place) {bytes : List ℕ} {place : ℕ × ℕ} → p ≡ place_of file a → bytes ≡ take p.length (drop p.at file)
-    → place ≡ behind front (min p.at (length file)) → (bytes ≡ label_text file a) × (place ≡ behind front (text_at file a))
-placed file a front p e b at =
-    let starts : p.at ≡ text_at file a = ap start e in
-    let inside : min p.at (length file) ≡ text_at file a = omega (arith, label_inside file a, starts) in
-    (b ∙ ap₂ (λ (n m : ℕ). take n (drop m file)) (ap size e) starts, at ∙ ap (behind front) inside)
+  at_start : None ≡ found_place file a → min 0 (length file) ≡ text_at file a
+  at_start e = omega (arith, (at_front e).starts)
 
-pub returns : goal.returns
-returns c =
-    let p = placed _ _ _ _ c.label_place-place.ensures c.part_from.ensures.bytes c.part_from.ensures.place in
-    record { bytes = p.0; place = p.1 }
+pub returns-in-Some-clause-place : goal.returns-in-Some-clause-place
+returns-in-Some-clause-place c = c.part_from.ensures.place ∙ ap (behind _) (starts _ _ c.in-Some.ensures)
+
+pub returns-in-None-clause-bytes : goal.returns-in-None-clause-bytes
+returns-in-None-clause-bytes c =
+    c.part_from-in-None.ensures.bytes ∙ sym (at_front c.args.file.now c.args.area c.in-None.ensures).text
+
+pub returns-in-None-clause-place : goal.returns-in-None-clause-place
+returns-in-None-clause-place c =
+    c.part_from-in-None.ensures.place ∙ ap (behind _) (at_start _ _ c.in-None.ensures)

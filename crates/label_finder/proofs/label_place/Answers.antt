@@ -1,78 +1,64 @@
--- `label_finder::label_place` meets its contract: the tests say whether the area has a label, and with one the text
--- stands where its entry says.
+-- `label_finder::label_place` meets its contract: an entry of the area in the block of an accepted file is its label's.
 -- Assumes nothing.
-use Prim.Native.Nat.{ℕ, ◌+◌, ◌*◌}
+use Rattle.std.proofs.Common.{ℕ, ◌+◌, ◌*◌, Some, None}
 use mathlib.Core.Path.{◌≡◌, sym, ap, ap₂, ◌∙◌}
-use mathlib.Core.Bool.{Bool, true, false, ◌&&◌}
+use mathlib.Core.Bool.{Bool, true, cond}
 use mathlib.Core.List.{List}
 use native.Mathlib.Omega.{arith}
-use borrow.Author.Tests.{lt-ltb, le-ltb}
-use lib.Dec.{eqb, ltb}
-use Rattle.label_tables.specs.Labels.{label_count, label_length, label_index}
-use Rattle.site_format.specs.Format.{labels, Layout, offset_in, part}
-use Rattle.site_format.proofs.Tables.{field_by}
+use borrow.Author.Tests.{eqb-true, ltb-true}
+use lib.Dec.{T, eqb, ltb}
+use Rattle.label_tables.specs.Labels.{label_count, label_length, label_index, label_found}
+use Rattle.site_format.specs.Format.{labels, part}
 use Rattle.site_file.specs.Reading.{file_refusal}
-use Rattle.label_finder.specs.Finder.{has_label, text_at, text_length, place_of}
-use Rattle.state.proofs.Bools.{holds, fails}
-use Rattle.label_finder.proofs.Laws.{label_small}
-use Rattle.label_finder.proofs.Texts.{found, front, same_place}
+use Rattle.label_finder.specs.Finder.{has_label, text_at, text_length, place_of, block_place, found_block}
+use Rattle.label_finder.specs.declared.Place.{Place}
+use Rattle.state.proofs.Bools.{is_true}
+use Rattle.label_finder.proofs.Laws.{label_small, block_found}
+use Rattle.label_finder.proofs.Texts.{found, labelled, same_place, found_some}
 use Rattle.label_finder.proofs.label_place.Goals as goal
 
-module _ (file : List ℕ) (a : ℕ) where
-  -- what the tests say
-  refused : {told : Bool} → told ≡ eqb (file_refusal file) 0 → told ≡ false → has_label file a ≡ false
-  refused e n = ap (λ (b : Bool). b && ltb (label_index (part file labels) a) (label_count (part file labels))) (sym e ∙ n)
+-- what is read of the entry is what is said of the label
+record Read (file : List ℕ) (a : ℕ) (block : Place) (table : List ℕ) (k : ℕ) : Type 0 where
+  has : T (has_label file a)
+  starts : block.at + (k * 32 + 2) ≡ text_at file a
+  long : label_length table k ≡ text_length file a
 
-  entry : {told : Bool} {table : List ℕ} {k : ℕ} (v : Bool) → told ≡ eqb (file_refusal file) 0 → told ≡ true
-      → table ≡ part file labels → k ≡ label_index table a → ltb k (label_count table) ≡ v → has_label file a ≡ v
-  entry {told} {table} v e n t i b =
-      let found = ap (λ (l : List ℕ). ltb (label_index l a) (label_count l)) (sym t) in
-      ap₂ ◌&&◌ (sym e ∙ n) (found ∙ sym (ap (λ (m : ℕ). ltb m (label_count table)) i) ∙ b)
+read : (file : List ℕ) (a : ℕ) {block : Place} {table : List ℕ} {k : ℕ} → Some block ≡ found_block file → table ≡ part file labels
+    → Some k ≡ label_found table a → Read file a block table k
+read file a {block} {table} {k} b t i =
+    record {
+      has = has;
+      starts =
+          ap₂ (λ (m n : ℕ). m + (n * 32 + 2)) (ap (λ (p : Place). p.at) p.1 ∙ (block_found file accepted).0) same
+          ∙ sym (found file a has).0;
+      long = ap₂ label_length t same ∙ sym (found file a has).1;
+    }
+  where
+    p : (eqb (file_refusal file) 0 ≡ true) × (block ≡ block_place file)
+    p = found_some _ block (block_place file) b
 
-  -- with a label, by what was read
-  entry_at : {table : List ℕ} {k offset : ℕ} → has_label file a ≡ true → table ≡ part file labels
-      → k ≡ label_index table a → offset ≡ offset_in file labels → offset + (k * 32 + 2) ≡ text_at file a
-  entry_at e t i o =
-      ap₂ (λ (m n : ℕ). m + (n * 32 + 2)) o (i ∙ ap (λ (l : List ℕ). label_index l a) t)
-      ∙ sym (found file a (holds e)).0
+    q : (ltb (label_index (part file labels) a) (label_count (part file labels)) ≡ true) × (k ≡ label_index (part file labels) a)
+    q = found_some _ k _ (i ∙ ap (λ (l : List ℕ). label_found l a) t)
 
-  entry_long : {table : List ℕ} {k : ℕ} → has_label file a ≡ true → table ≡ part file labels → k ≡ label_index table a
-      → label_length table k ≡ text_length file a
-  entry_long {table} e t i =
-      ap (label_length table) i
-      ∙ ap (λ (l : List ℕ). label_length l (label_index l a)) t
-      ∙ sym (found file a (holds e)).1
+    accepted : file_refusal file ≡ 0
+    accepted = eqb-true (file_refusal file) 0 p.0
 
-  nowhere : has_label file a ≡ false → record { at = 0; length = 0 } ≡ place_of file a
-  nowhere e = let f = front file a (fails e) in same_place (sym f.0) (sym f.1)
+    same : k ≡ label_index (part file labels) a
+    same = q.1
 
-pub returns-then-not-is_accepted : goal.returns-then-not-is_accepted
-returns-then-not-is_accepted c = nowhere _ c.args.area (refused _ _ c.is_accepted.ensures c.if-not-is_accepted.true)
+    has : T (has_label file a)
+    has = labelled file a accepted (ltb-true _ _ q.0)
 
-pub returns-then-table-k : goal.returns-then-table-k
-returns-then-table-k c =
-    nowhere _ c.args.area
-    (entry _ _ false c.is_accepted.ensures c.if-not-is_accepted.false c.labels-table.ensures c.index_of-k.ensures
-    (le-ltb _ _ c.if-table-k.true))
-
-pub overflow_cast-at : goal.overflow_cast-at
-overflow_cast-at c =
+pub overflow_cast-at-2 : goal.overflow_cast-at-2
+overflow_cast-at-2 c =
     let file = c.args.file.now in
-    let a = c.args.area in
-    let table = c.labels-table.ensures in
-    let k = c.index_of-k.ensures in
-    let here = lt-ltb _ _ c.if-table-k.false in
-    let labelled = entry file a true c.is_accepted.ensures c.if-not-is_accepted.false table k here in
-    let offset = field_by file (λ (l : Layout). l.offset_at) c.field_at-from.ensures c.layout_of-layout.ensures in
-    omega (arith, entry_at file a labelled table k offset, label_small file (λ i. (c.type_inv.file i).fits) a)
+    let r = read file c.args.area c.in_ok-block.ensures c.part-table.ensures c.in_ok-k.ensures in
+    omega (arith, r.starts, label_small file (λ i. (c.type_inv.file i).fits) c.args.area)
 
 pub returns : goal.returns
 returns c =
     let file = c.args.file.now in
     let a = c.args.area in
-    let table = c.labels-table.ensures in
-    let k = c.index_of-k.ensures in
-    let here = lt-ltb _ _ c.if-table-k.false in
-    let labelled = entry file a true c.is_accepted.ensures c.if-not-is_accepted.false table k here in
-    let offset = field_by file (λ (l : Layout). l.offset_at) c.field_at-from.ensures c.layout_of-layout.ensures in
-    same_place (entry_at file a labelled table k offset) (entry_long file a labelled table k)
+    let r = read file a c.in_ok-block.ensures c.part-table.ensures c.in_ok-k.ensures in
+    ap Some (same_place r.starts r.long)
+    ∙ sym (ap (λ (b : Bool). cond b (Some (place_of file a)) None) (is_true (has_label file a) r.has))
