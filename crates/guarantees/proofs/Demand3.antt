@@ -8,16 +8,19 @@ use mathlib.Core.Bool.{Bool, true, false, not}
 use mathlib.Core.List.{List, [], ◌∷◌}
 use native.Mathlib.Decide.{ℕ_discrete}
 use lib.Dec.{T}
+use Rattle.std.proofs.Common.{Some, Ok, Err}
+use Rattle.verdicts.specs.declared.Refusal.{Refusal}
+use Rattle.verdicts.specs.declared.Refusal.TheVariants.{UnknownCode, OutOfRange}
 use Rattle.state.specs.Site.{Kind, user, area, object, listed, with_listed, Relation, owner, definition, structure, import, export, related, with_pair, owns}
 use Rattle.state.specs.Site.{Site}
 use Rattle.state.proofs.Bools.{fails, so}
 use Rattle.state.proofs.Laws.{list_keeps_pairs, related_else, related_other_relation}
 use Rattle.soundness.specs.Sound.{Sound}
-use Rattle.instructions.specs.Instructions.{Bytes, rule, instruction, instruction_of}
+use Rattle.instructions.specs.Instructions.{Bytes, rule, instruction_of}
 use Rattle.instructions.specs.declared.Target.{Target}
 use Rattle.instructions.specs.declared.Target.TheVariants.{TheArea, Owner, Definition, Structure, Import, Export}
-use Rattle.instructions.specs.Decode.{decode_of}
-use Rattle.instructions.proofs.Laws.{fits_exactly}
+use Rattle.instructions.specs.Decode.{Decoded, decode_of}
+use Rattle.instructions.proofs.Laws.{refused_as_two, fits_exactly}
 use Rattle.successors.specs.Successor.{without_owner, changed, successor, successor_of}
 use Rattle.state.specs.Checks.{first_met, met_at}
 use Rattle.machine.proofs.Laws.{accepted_meets_none, accepted_gives, refused_unchanged, number_by_first}
@@ -25,8 +28,6 @@ use Rattle.machine.specs.Step.{step_of, run}
 use Rattle.guarantees.specs.Demand3
 use Rattle.guarantees.specs.Demand3.{Silent, silent_end, silent_next, LendingGuarantee}
 use Rattle.instructions.specs.declared.Instruction.{Instruction}
-use Rattle.instructions.specs.declared.Decoded.{Decoded}
-use Rattle.instructions.specs.declared.Decoded.TheVariants.{Fits, NoCode, OutOfRange}
 use Rattle.guarantees.proofs.Parts.{different}
 use Rattle.instructions.specs.declared.Rule.{Rule}
 use Rattle.guarantees.proofs.Rows.{picks_one, Row, row, lists_area, unlists_area, adds_owner, removes_owner, adds_structure, removes_structure}
@@ -44,17 +45,20 @@ module _ (s : Site) (bytes : Bytes) where
 
   pub record Obeyed (t : Site) : Type 0 where
     pub kind : Instruction
-    pub fitting : decode_of bytes ≡ Fits kind
+    pub fitting : decode_of bytes ≡ Ok kind
     pub accepted : accepts kind
     pub given : t ≡ gives kind
 
   -- by what the bytes fit; one that fits nothing would meet 1 or 2
   picked : (d : Decoded) → decode_of bytes ≡ d → ((n : ℕ) → met_at n (table_of s bytes d) ≡ false) → Obeyed (successor_of s bytes d)
-  picked NoCode e passes = absurd (fails (passes 1) tt)
-  picked OutOfRange e passes = absurd (fails (passes 2) tt)
-  picked (Fits x) e passes =
+  picked (Ok x) e passes =
       let accepted : accepts x = record { is_in_range = ((fits_exactly bytes x).0 e).is_in_range; passes = passes } in
       record { kind = x; fitting = e; accepted = accepted; given = refl }
+  picked (Err refusal) e passes = absurd (go (refused_as_two bytes (instruction_of bytes.code) refusal e))
+    where
+      go : (refusal ≡ UnknownCode) ⊎ (refusal ≡ OutOfRange) → ⊥
+      go (inl q) = fails (subst (λ (r : Refusal). met_at 1 (table_of s bytes (Err r)) ≡ false) q (passes 1)) tt
+      go (inr q) = fails (subst (λ (r : Refusal). met_at 2 (table_of s bytes (Err r)) ≡ false) q (passes 2)) tt
 
   pub obeyed : (step_of s bytes).refusal ≡ 0 → Obeyed (step_of s bytes).state
   obeyed e = rw (accepted_gives s bytes e) (picked (decode_of bytes) refl (accepted_meets_none s bytes e))
@@ -67,7 +71,7 @@ module _ (s : Site) (bytes : Bytes) where
       go (no f) = inl (refused_unchanged s bytes f)
 
   -- the instruction that the code picks
-  pub obeyed_as : (x : Instruction) → instruction_of bytes.code ≡ instruction x → (step_of s bytes).refusal ≡ 0
+  pub obeyed_as : (x : Instruction) → instruction_of bytes.code ≡ Some x → (step_of s bytes).refusal ≡ 0
       → accepts x × ((step_of s bytes).state ≡ gives x)
   obeyed_as x picks e =
       let y = obeyed e in

@@ -22,8 +22,7 @@ use Rattle.soundness.specs.Sound.{Named, DefinedOnce, Valid, Sound}
 use Rattle.soundness.specs.Tests.{is_valid, is_sound}
 use Rattle.soundness.proofs.Laws.{sound_decided, valid_decided}
 use Rattle.instructions.specs.Instructions.{Bytes}
-use Rattle.instructions.specs.Decode.{fits, misfits}
-use Rattle.instructions.specs.declared.Decoded.{Decoded}
+use Rattle.instructions.specs.Decode.{Decoded, fits, misfits}
 use Rattle.instructions.specs.declared.Target.TheVariants.{TheArea}
 use Rattle.successors.specs.Successor.{without_owner, changed}
 use Rattle.state.specs.Checks.{Check, ◌when◌, first_met, met_at}

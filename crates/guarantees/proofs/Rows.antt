@@ -2,13 +2,15 @@
 -- another has a clause here and nowhere else; but an add and its remove have one in TakingBack too.
 -- Assumes nothing.
 use Prim.Native.Nat.{ℕ, zero, suc, ◌+◌}
-use mathlib.Core.Path.{◌≡◌, ap, sym, subst}
-use mathlib.Core.Bool.{Bool, true, false, ◌&&◌}
+use mathlib.Core.Path.{◌≡◌, subst}
+use mathlib.Core.Bool.{Bool, true, ◌&&◌}
 use mathlib.Core.List.{List, [], ◌∷◌}
 use native.Mathlib.Omega.{arith}
 use lib.Dec.{T}
+use Rattle.std.proofs.Common.{Some}
+use Rattle.std.proofs.lemmas.Option.{none-some, same_Some}
 use Rattle.state.proofs.Bools.{and_left, and_right}
-use Rattle.instructions.specs.Instructions.{Picked, unknown, instruction, instructions, pick, instruction_of}
+use Rattle.instructions.specs.Instructions.{instructions, pick, instruction_of}
 use Rattle.instructions.specs.Instructions.{adding, removing, rule}
 use Rattle.instructions.specs.declared.Instruction.{Instruction}
 use Rattle.instructions.specs.declared.Instruction.TheVariants.{ListArea, UnlistArea, AddOwner, RemoveOwner}
@@ -49,23 +51,9 @@ row AddExport = adds_export
 row RemoveExport = removes_export
 
 -- ---- codes
--- what a code picks, if it picks anything
-picked_one : Picked → Instruction
-picked_one unknown = ListArea
-picked_one (instruction x) = x
-
 -- a code picks one instruction
-pub picks_one : {x y : Instruction} → instruction x ≡ instruction y → x ≡ y
-unfolding picked_one
-picks_one e = ap picked_one e
-
-is_picked : Picked → Bool
-is_picked unknown = false
-is_picked (instruction x) = true
-
-not_picked : {x : Instruction} → unknown ≡ instruction x → ⊥
-unfolding is_picked
-not_picked e = subst T (sym (ap is_picked e)) tt
+pub picks_one : {x y : Instruction} → Some x ≡ Some y → x ≡ y
+picks_one e = same_Some _ _ e
 
 -- a test of each instruction of a list with its code, the first of which is k
 abbrev pub each_code : (ℕ → Instruction → Bool) → ℕ → List Instruction → Bool
@@ -73,8 +61,8 @@ each_code test k [] = true
 each_code test k (x ∷ rest) = test k x && each_code test (suc k) rest
 
 code_at : (test : ℕ → Instruction → Bool) (k : ℕ) (l : List Instruction) → T (each_code test k l) → (n : ℕ) (x : Instruction)
-    → pick l n ≡ instruction x → T (test (k + n) x)
-code_at test k [] t n x e = absurd (not_picked e)
+    → pick l n ≡ Some x → T (test (k + n) x)
+code_at test k [] t n x e = absurd (none-some x e)
 code_at test k (y ∷ rest) t zero x e =
     let here : k ≡ k + 0 = omega arith in
     subst (λ (m : ℕ). T (test m x)) here (subst (λ (z : Instruction). T (test k z)) (picks_one e) (and_left (test k y) (each_code test (suc k) rest) t))
@@ -83,8 +71,8 @@ code_at test k (y ∷ rest) t (suc n) x e =
     subst (λ (m : ℕ). T (test m x)) here (code_at test (suc k) rest (and_right (test k y) (each_code test (suc k) rest) t) n x e)
 
 pub by_code : (test : ℕ → Instruction → Bool) → T (each_code test 1 instructions) → (code : ℕ) (x : Instruction)
-    → instruction_of code ≡ instruction x → T (test code x)
-by_code test t zero x e = absurd (not_picked e)
+    → instruction_of code ≡ Some x → T (test code x)
+by_code test t zero x e = absurd (none-some x e)
 by_code test t (suc n) x e =
     let here : 1 + n ≡ suc n = omega arith in
     subst (λ (m : ℕ). T (test m x)) here (code_at test 1 instructions t n x e)

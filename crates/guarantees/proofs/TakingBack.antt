@@ -9,6 +9,7 @@ use mathlib.Core.Bool.{Bool, true, false, ◌&&◌, ◌||◌, not}
 use mathlib.Core.List.{List, [], ◌∷◌}
 use lib.Dec.{T, eqb, ltb}
 use borrow.Author.Tests.{eqb-true}
+use Rattle.std.proofs.Common.{Some, Ok}
 use Rattle.state.specs.Site.{Site, Kind, user, area, object, limit, listed, with_listed, members, Shaped}
 use Rattle.state.specs.Site.{Relation, owner, definition, structure, import, export}
 use Rattle.state.specs.Site.{first_kind, cells, related, with_pair, owns}
@@ -24,7 +25,7 @@ use Rattle.soundness.specs.Tests.{some_listed, is_valid}
 use Rattle.soundness.proofs.Names.{sound_lists}
 use Rattle.soundness.proofs.Laws.{some_decided, valid_decided}
 use Rattle.readings.specs.Readings.{seen_of, names_area}
-use Rattle.instructions.specs.Instructions.{Bytes, rule, removing, instruction, instruction_of}
+use Rattle.instructions.specs.Instructions.{Bytes, rule, removing, instruction_of}
 use Rattle.instructions.specs.declared.Instruction.{Instruction}
 use Rattle.instructions.specs.declared.Instruction.TheVariants.{ListArea, UnlistArea, AddOwner, RemoveOwner}
 use Rattle.instructions.specs.declared.Instruction.TheVariants.{AddStructure, RemoveStructure, Define}
@@ -35,7 +36,6 @@ use Rattle.instructions.specs.declared.Lookup.TheVariants.{OnlyA, Both}
 use Rattle.instructions.specs.declared.MustOwn.TheVariants.{OwnsA, OwnsToCut}
 use Rattle.instructions.specs.Decode.{fits, decode_of}
 use Rattle.instructions.proofs.Laws.{fits_exactly}
-use Rattle.instructions.specs.declared.Decoded.TheVariants.{Fits}
 use Rattle.instructions.specs.declared.Rule.{Rule}
 use Rattle.instructions.specs.declared.Target.{Target}
 use Rattle.instructions.specs.declared.Lookup.{Lookup}
@@ -270,7 +270,7 @@ module _ (s : Site) (h : Sound s) (x : Bytes) (remove : ℕ) where
 
   -- ---- the two steps
   -- the codes pick k, which adds, and l, which removes the same
-  undone : (k l : Instruction) → instruction_of x.code ≡ instruction k → instruction_of remove ≡ instruction l
+  undone : (k l : Instruction) → instruction_of x.code ≡ Some k → instruction_of remove ≡ Some l
       → (rule k).adds ≡ true → rule l ≡ removing (rule k).target (rule l).lookup (rule l).ownership
       → (Accepted s (rule k) u a b
       → Removable s (changed s (rule k).target true u a b) (rule k).target (rule l).lookup (rule l).ownership y)
@@ -297,14 +297,14 @@ module _ (s : Site) (h : Sound s) (x : Bytes) (remove : ℕ) where
       removable : Removable s t (rule k).target (rule l).lookup (rule l).ownership y
       removable = leaves obeyed.0
 
-      fitting : decode_of y ≡ Fits l
+      fitting : decode_of y ≡ Ok l
       fitting =
           let same = ap (λ (r : Rule). ltb u (limit user) && ltb a (limit area) && fits r.target b) (sym removes) in
           (fits_exactly y l).1 (record { picked = takes; is_in_range = subst T same obeyed.0.is_in_range })
 
       number : (step_of t y).refusal ≡ 0
       number =
-          by_table t y (Fits l) fitting
+          by_table t y (Ok l) fitting
           ∙ ap (λ (r : Rule). first_met (table t r y.activator y.a y.b)) removes
           ∙ remove_passed s t h (subst Sound next (step_sound s x h)) (rule k).target (rule l).lookup
           (rule l).ownership y removable

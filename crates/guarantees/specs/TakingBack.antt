@@ -2,10 +2,10 @@
 -- matching remove from the same activator, is always accepted and gives the earlier state in every field. This covers
 -- all six adds. It includes a user who was listed only by that add." (document 02, point 7, 'Taking back leaves no
 -- trace').
-use Rattle.std.specs.Prelude.{ℕ, suc, ◌≡◌, true}
+use Rattle.std.specs.Prelude.{ℕ, suc, ◌≡◌, true, Some}
 use Rattle.state.specs.Site.{Site}
 use Rattle.soundness.specs.Sound.{Sound}
-use Rattle.instructions.specs.Instructions.{Bytes, four_bytes, rule, instruction, instruction_of}
+use Rattle.instructions.specs.Instructions.{Bytes, four_bytes, rule, instruction_of}
 use Rattle.instructions.specs.declared.Instruction.{Instruction}
 use Rattle.machine.specs.Step.{step_of}
 
@@ -45,4 +45,4 @@ TakingBack =
 -- "This covers all six adds": every code that picks an add has its matching remove, the next code
 abbrev pub EveryAdd : Type 0
 EveryAdd =
-    (add : ℕ) (x : Instruction) → instruction_of add ≡ instruction x → (rule x).adds ≡ true → Opposite add (suc add)
+    (add : ℕ) (x : Instruction) → instruction_of add ≡ Some x → (rule x).adds ≡ true → Opposite add (suc add)

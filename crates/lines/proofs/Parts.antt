@@ -1,4 +1,5 @@
--- The parts of some bytes, by the place of the first separator. A word lacks the separator where that place is its length.
+-- The parts of some bytes, by the place of the first separator. A word lacks the separator where that place is its
+-- length.
 --     index_most                             the place is no more than the length
 --     index_past                             a word that lacks it is passed over
 --     parted, none_parted                    the bytes in front of the first separator and those behind it, or none

@@ -2,7 +2,7 @@
 --     numbers_of                the numbers of the parts
 --     text_whole, text_first    where no space is left, and where one is: the number in front of it, and those behind
 --     too_few, short_2, short_3 a text of one, two or three words is unreadable
---     read                      a text of three spaces: behind the third is the fourth number, or a space, and then none
+--     read                      a text of three spaces: behind the third stands the fourth number, or a text of none
 --     readable_exactly          the claim
 -- Assumes nothing.
 use Prim.Native.Nat.{ℕ, suc, ◌<◌}
