@@ -76,7 +76,7 @@ fn owns_any(bytes: &[u8], user: u8) -> bool
     ensures { result ≡ has_first (cells (state_of bytes.now) owner) user }
 {
     let at = records::OWNERS + user as usize * 4;
-    (bytes[at] | bytes[at + 1] | bytes[at + 2] | bytes[at + 3]) != 0
+    bytes[at..at + 4].iter().any(|byte| *byte != 0)
 }
 
 // The user no longer owns the area: he is listed only if he owns one still.
