@@ -5,7 +5,7 @@
 --     Laying                                     a loop that lays the walk area by area, and what it has laid
 --     walked_none, walked_more, walked_all       before the first turn, one turn more, and the last area behind the last
 -- Assumes nothing.
-use Prim.Native.Nat.{ℕ, zero, suc, ◌+◌, ◌-◌, ◌^◌, ◌<◌, ◌≤◌}
+use Prim.Native.Nat.{ℕ, suc, ◌-◌, ◌^◌, ◌<◌}
 use mathlib.Core.Path.{◌≡◌, refl, sym, ap, ap₂, subst, ◌∙◌}
 use mathlib.Core.Bool.{Bool, true, false, ◌&&◌, not, cond}
 use mathlib.Core.List.{List, [], ◌∷◌, ◌++◌, append_assoc}
@@ -109,54 +109,47 @@ module _ (move : ℕ → ℕ → Bool) (a : ℕ) where
       let found = first_found (λ s. hand s && eqb s a) places (holds t) in
       ap (λ (r : ℕ). r ∷ []) (eqb-true s a (is_true _ (and_right (hand s) (eqb s a) found.1)))
 
-  -- ---- a loop that lays the walk from the front of a buffer, but for its last area
-  pub record Laying (n : ℕ) (start : ℕ → Bool) (b₀ : List ℕ) (k hand end : ℕ) (b : List ℕ) : Type 0 where
+  -- ---- a loop that lays the walk from the front of a buffer, but for its last area; so many steps are left
+  pub record Laying (n : ℕ) (start : ℕ → Bool) (b₀ : List ℕ) (left hand end : ℕ) (b : List ℕ) : Type 0 where
     pub known : length b₀ < 2 ^ 64
-    pub left : ℕ
-    pub counts : k + left ≡ n
     pub done : List ℕ
     pub split : walk move a n start ≡ done ++ walk move a left (bit hand)
     pub leads : is_open move a left (bit hand) ≡ true
     pub placed : Placed done 0 b₀ end b
 
-  pub walked_none : (n defined : ℕ) (b₀ : List ℕ) → length b₀ < 2 ^ 64 → is_open move a n (bit defined) ≡ true → Laying n (bit defined) b₀ 0 defined 0 b₀
-  walked_none n defined b₀ known t =
-      record { known = known; left = n; counts = omega arith; done = []; split = refl; leads = t; placed = placed_none 0 b₀ (omega arith) }
+  pub walked_none : (n left defined : ℕ) (b₀ : List ℕ) → left ≡ n → length b₀ < 2 ^ 64 → is_open move a n (bit defined) ≡ true
+      → Laying n (bit defined) b₀ left defined 0 b₀
+  walked_none n left defined b₀ e known t =
+      rw e record { known = known; done = []; split = refl; leads = t; placed = placed_none 0 b₀ (omega arith) }
 
-  module _ (n : ℕ) (start : ℕ → Bool) (b₀ : List ℕ) (k hand end : ℕ) (b : List ℕ) (w : Laying n start b₀ k hand end b) where
+  module _ (n : ℕ) (start : ℕ → Bool) (b₀ : List ℕ) (left hand end : ℕ) (b : List ℕ) (w : Laying n start b₀ left hand end b) where
     -- one turn, by what the calls promise
-    pub walked_more : (row found next last : ℕ) (c : List ℕ) (only new : ℕ) → k < n
-        → row ≡ leading_row move a (n - k) → found ≡ intersection hand row → next ≡ lowest found → Placed (next ∷ []) end b last c
-        → only ≡ with_bit 0 next true → new ≡ next_to move only → Laying n start b₀ (k + 1) new last c
-    walked_more row found next last c only new h er ef en p eo ew = go w.left w.counts w.split w.leads
+    pub walked_more : (row found next last : ℕ) (c : List ℕ) (only new : ℕ) → 0 < left
+        → row ≡ leading_row move a left → found ≡ intersection hand row → next ≡ lowest found → Placed (next ∷ []) end b last c
+        → only ≡ with_bit 0 next true → new ≡ next_to move only → Laying n start b₀ (left - 1) new last c
+    walked_more row found next last c only new h er ef en p eo ew =
+        go (left - 1) (omega arith)
       where
-        go : (left : ℕ) → k + left ≡ n → walk move a n start ≡ w.done ++ walk move a left (bit hand) → is_open move a left (bit hand) ≡ true
-            → Laying n start b₀ (k + 1) new last c
-        go zero e split leads = absurd (omega arith)
-        go (suc m) e split leads =
-            let same : n - k ≡ suc m = omega arith in
+        go : (m : ℕ) → left ≡ suc m → Laying n start b₀ m new last c
+        go m same =
             let lowest_is : next ≡ lowest_open move a (suc m) (bit hand) =
             en ∙ ap lowest (ef ∙ ap (intersection hand) (er ∙ ap (leading_row move a) same)) ∙ open_lowest (suc m) hand in
             let hand_is : behind (suc m) hand ≡ bit new = ap bit (sym (ew ∙ ap (next_to move) (eo ∙ ap (λ (s : ℕ). with_bit 0 s true) lowest_is))) in
-            let on = onward m hand leads in
+            let on = onward m hand (rw same at w.leads) in
             let more : walk move a (suc m) (bit hand) ≡ next ∷ walk move a m (bit new) =
             on.0 ∙ ap₂ (λ (s : ℕ) (f : ℕ → Bool). s ∷ walk move a m f) (sym lowest_is) hand_is in
             record {
               known = w.known;
-              left = m;
-              counts = omega arith;
               done = w.done ++ (next ∷ []);
-              split = split ∙ ap (λ (l : List ℕ). w.done ++ l) more ∙ sym (append_assoc w.done (next ∷ []) (walk move a m (bit new)));
+              split = w.split ∙ ap (λ (k : ℕ). w.done ++ walk move a k (bit hand)) same ∙ ap (λ (l : List ℕ). w.done ++ l) more
+                  ∙ sym (append_assoc w.done (next ∷ []) (walk move a m (bit new)));
               leads = subst (λ (f : ℕ → Bool). is_open move a m f ≡ true) hand_is on.1;
               placed = placed_then w.done (next ∷ []) 0 b₀ w.known end b last c w.placed p;
             }
 
-    pub walked_all : (last : ℕ) (c : List ℕ) → n ≤ k → Placed (a ∷ []) end b last c → Placed (walk move a n start) 0 b₀ last c
-    walked_all last c h p = go w.left w.counts w.split w.leads
-      where
-        go : (left : ℕ) → k + left ≡ n → walk move a n start ≡ w.done ++ walk move a left (bit hand) → is_open move a left (bit hand) ≡ true
-            → Placed (walk move a n start) 0 b₀ last c
-        go zero e split leads =
-            rw (split ∙ ap (λ (l : List ℕ). w.done ++ l) (last_area (bit hand) leads))
-            (placed_then w.done (a ∷ []) 0 b₀ w.known end b last c w.placed p)
-        go (suc m) e split leads = absurd (omega arith)
+    pub walked_all : (last : ℕ) (c : List ℕ) → left ≡ 0 → Placed (a ∷ []) end b last c → Placed (walk move a n start) 0 b₀ last c
+    walked_all last c none p =
+        rw
+        (w.split ∙ ap (λ (k : ℕ). w.done ++ walk move a k (bit hand)) none
+        ∙ ap (λ (l : List ℕ). w.done ++ l) (last_area (bit hand) (subst (λ (k : ℕ). is_open move a k (bit hand) ≡ true) none w.leads)))
+        (placed_then w.done (a ∷ []) 0 b₀ w.known end b last c w.placed p)

@@ -75,8 +75,8 @@ fn put_walk<'a>(
 {
     let mut end: usize = 0;
     let mut at_hand = o.defined;
-    for k in 0..n {
-        let open = bits::intersection(at_hand, rows[n - k]);
+    for left in (1..n + 1).rev() {
+        let open = bits::intersection(at_hand, rows[left]);
         let next = bits::lowest(open);
         end = output::put(out, end, next);
         let only = bits::with_bit(0, next, true);

@@ -5,7 +5,8 @@
 --     some_of                        a state that is not valid has lost one
 --     lost_of_one, lost_is_own       where one object alone has lost pairs
 --     given_shaped                   the state that an instruction would give has its shape
---     eleven_removes, eleven_invalid what 11 says of the instruction, and of that state
+--     eleven_fits, eleven_sound      what 11 says of the bytes, and of the state given
+--     eleven_removes, eleven_invalid what 11 says of the instruction, and of the state that it would give
 -- Assumes nothing.
 use Prim.Native.Nat.{ℕ, ◌≤◌, ◌<◌}
 use mathlib.Core.Path.{◌≡◌, refl, sym, ap, subst, ◌∙◌}
@@ -17,11 +18,12 @@ use native.Mathlib.Decide.{ℕ_discrete, dec_lt}
 use borrow.Author.Tests.{lt-ltb}
 use lib.Dec.{T, ltb→lt, lt→ltb}
 use Rattle.std.proofs.Common.{Ok, Err}
-use Rattle.state.specs.Checks.{◌when◌, met_at}
+use Rattle.verdicts.specs.declared.Refusal.{Refusal}
+use Rattle.state.specs.Checks.{◌when◌, first_met, met_at}
 use Rattle.state.specs.Site.{Site, user, area, object, limit, with_listed, Relation, first_kind, owner, definition, structure, import, export, related, with_pair, Shaped}
 use Rattle.state.proofs.Below.{some_at, some_by, first_is, first_none, first_met_lem, first_under, first_found}
 use Rattle.state.proofs.Bools.{and_both, and_left, and_right, is_true, is_false, fails, holds, not_so, so_not, test}
-use Rattle.state.proofs.Checks.{once, met_at_lem}
+use Rattle.state.proofs.Checks.{once, met, met_at_lem}
 use Rattle.state.proofs.Laws.{related_inside, list_keeps_pairs, remove_adds_none, relate_shaped, list_shaped}
 use Rattle.access.specs.Lending.{Lending, lending}
 use Rattle.access.specs.Answer.{access}
@@ -188,6 +190,18 @@ eleven_met s x d q e = rw q at (met_at_lem 11 tt (refusals s x) (once_in (decode
     once_in : (d : Decoded) → T (once 11 ((12 when not (is_sound s)) ∷ (misfits d ++ checks_of s x d)))
     once_in (Ok y) = tt
     once_in (Err r) = tt
+
+-- the bytes fit an instruction, and the state is sound
+pub eleven_fits : (s : Site) (x : Bytes) → step_refusal s x ≡ 11 → (r : Refusal) → decode_of x ≡ Err r → ⊥
+eleven_fits s x e r q = eleven_met s x (Err r) q e
+
+pub eleven_sound : (s : Site) (x : Bytes) → step_refusal s x ≡ 11 → T (is_sound s)
+unfolding step_refusal
+eleven_sound s x e = go (test (is_sound s))
+  where
+    go : T (is_sound s) ⊎ (is_sound s ≡ false) → T (is_sound s)
+    go (inl t) = t
+    go (inr f) = let unsound : first_met (refusals s x) ≡ 12 = met _ _ (ap not f) in absurd (omega arith)
 
 pub eleven_removes : Laws.ElevenRemoves
 eleven_removes s x y fit e =

@@ -42,9 +42,12 @@ pub data Explanation : Type 0 where
   ByCounts : ℕ → Explanation
 
 -- what the code answers, as one of these
+abbrev pub as_explained : Explained → Explanation
+as_explained (Chain count) = ByChain count
+as_explained (Counts count) = ByCounts count
+
 abbrev pub as_explanation : Result Explained Refusal → Explanation
-as_explanation (Ok (Chain count)) = ByChain count
-as_explanation (Ok (Counts count)) = ByCounts count
+as_explanation (Ok explained) = as_explained explained
 as_explanation (Err refusal) = Unexplained (number refusal)
 
 abbrev pub which : Answer → (count : ℕ) → Explanation

@@ -1,28 +1,34 @@
--- `chain_finder::put_walk` meets its contract. The loop's invariant: the walk's first k areas are laid, and those that are left are the walk from what
--- is at hand; where no step is left, that is the area itself.
+-- `chain_finder::put_walk` meets its contract. The loop's invariant: the walk's areas before those of the steps that are left are laid, and the others
+-- are the walk from what is at hand; where no step is left, that is the area itself.
 -- Assumes nothing.
 use native.Mathlib.Omega.{arith}
 use Rattle.access.specs.Answer.{longest}
 use Rattle.chain_finder.proofs.Walking.{walked_none, walked_more, walked_all}
 use Rattle.chain_finder.proofs.put_walk.Goals as goal
 
-pub loop-k-init : goal.loop-k-init
-loop-k-init c = walked_none _ _ _ _ _ c.well_formed.0.0 c.requires.2
-
-pub offset_bounds-rows-n : goal.offset_bounds-rows-n
+pub overflow_step-left : goal.overflow_step-left
 unfolding longest
-offset_bounds-rows-n c = omega arith
+overflow_step-left c = omega arith
 
-pub bounds-rows-n : goal.bounds-rows-n
+pub loop-left-init : goal.loop-left-init
+loop-left-init c = (omega arith, walked_none _ _ _ _ _ _ (omega arith) c.well_formed.0.0 c.requires.2)
+
+pub offset_bounds-rows-left : goal.offset_bounds-rows-left
 unfolding longest
-bounds-rows-n c = omega arith
+offset_bounds-rows-left c = omega arith
 
-pub loop-k-preserved : goal.loop-k-preserved
-loop-k-preserved c =
-    walked_more _ _ _ _ _ _ _ _ _ c.loop-k.invariant _ _ _ _ _ _ _ c.loop-k-test.true (c.requires.1 _ (omega arith))
-    c.intersection-open.ensures c.lowest-next.ensures.equation (c.put-end.ensures.place, c.put-end.ensures.buffer) c.with_bit-only.ensures c.next_alone-at_hand.ensures
+pub bounds-rows-left : goal.bounds-rows-left
+unfolding longest
+bounds-rows-left c = omega arith
+
+pub loop-left-preserved : goal.loop-left-preserved
+loop-left-preserved c = (
+  omega arith,
+  walked_more _ _ _ _ _ _ _ _ _ c.loop-left.invariant.1 _ _ _ _ _ _ _ (omega arith) (c.requires.1 _ (omega arith))
+      c.intersection-open.ensures c.lowest-next.ensures.equation (c.put-end.ensures.place, c.put-end.ensures.buffer) c.with_bit-only.ensures c.next_alone-at_hand.ensures,
+)
 
 pub returns : goal.returns
 returns c =
-    let p = walked_all _ _ _ _ _ _ _ _ _ c.loop-k.invariant _ _ c.loop-k-test.false (c.put.ensures.place, c.put.ensures.buffer) in
+    let p = walked_all _ _ _ _ _ _ _ _ _ c.loop-left.invariant.1 _ _ (omega arith) (c.put.ensures.place, c.put.ensures.buffer) in
     record { place = p.0; buffer = p.1 }
