@@ -33,16 +33,16 @@ use Rattle.reasons.specs.Lost.{some_lost, first_lost, step_reason_of}
 use Rattle.reasons.specs.Claims
 use Rattle.reasons.specs.Claims.{ChainThere, CountsThere, NamedIn}
 use Rattle.reasons.specs.Laws
-use Rattle.reasons.proofs.Explained.{in_front, Explained, refused, by_chain, by_counts, explained, chain_counts, refused_chain, refused_counts}
-use Rattle.reasons.proofs.Explained
+use Rattle.reasons.proofs.Cases.{in_front, Explained, refused, by_chain, by_counts, explained}
+use Rattle.reasons.proofs.Cases
 use Rattle.reasons.proofs.Losing
 use Rattle.reasons.proofs.Losing.{first_of, none_lost, some_of, given_shaped, eleven_invalid}
 
 pub refused_so : Laws.RefusedSo
-refused_so = Explained.refused_so
+refused_so = Cases.refused_so
 
 pub explained_so : Laws.ExplainedSo
-explained_so = Explained.explained_so
+explained_so = Cases.explained_so
 
 pub reason_so : Laws.ReasonSo
 unfolding step_reason_of
@@ -69,8 +69,8 @@ pub chain_is_true : Claims.ChainIsTrue
 chain_is_true s a b buffer n e = go (explained s a b buffer)
   where
     go : Explained s a b buffer → ChainThere s a b buffer n
-    go (refused f r w) = absurd (refused_chain (sym r ∙ e))
-    go (by_counts z x r w) = absurd (chain_counts (sym e ∙ r))
+    go (refused f r w) = absurd (cc (sym r ∙ e))
+    go (by_counts z x r w) = absurd (cc (sym e ∙ r))
     go (by_chain k z x r w) =
         let l = lending s b in
         let size : n ≡ length (first_chain l a) = ap explanation_bytes (sym e ∙ r) in
@@ -103,8 +103,8 @@ pub counts_are_true : Claims.CountsAreTrue
 counts_are_true s a b buffer n e = go (explained s a b buffer)
   where
     go : Explained s a b buffer → CountsThere s a b buffer n
-    go (refused f r w) = absurd (refused_counts (sym r ∙ e))
-    go (by_chain k z x r w) = absurd (chain_counts (sym r ∙ e))
+    go (refused f r w) = absurd (cc (sym r ∙ e))
+    go (by_chain k z x r w) = absurd (cc (sym r ∙ e))
     go (by_counts z x r w) =
         let l = lending s b in
         let rest = drop (length (least_counts l)) buffer in
@@ -121,9 +121,9 @@ chain_exactly s a b buffer = go (explained s a b buffer)
   where
     go : Explained s a b buffer
         → ((n : ℕ) × (explanation_of s a b buffer ≡ ByChain n)) ↔ ((explain_refusal s a b buffer ≡ 0) × T (access (lending s b) a))
-    go (refused f r w) = (λ c. absurd (refused_chain (sym r ∙ c.1)), λ c. absurd (f c.0))
+    go (refused f r w) = (λ c. absurd (cc (sym r ∙ c.1)), λ c. absurd (f c.0))
     go (by_counts z x r w) =
-        (λ c. absurd (chain_counts (sym c.1 ∙ r)), λ c. absurd (fails (no_access (lending s b) a x) c.1))
+        (λ c. absurd (cc (sym c.1 ∙ r)), λ c. absurd (fails (no_access (lending s b) a x) c.1))
     go (by_chain k z x r w) = (λ c. (z, has_access (lending s b) a k x), λ c. (length (first_chain (lending s b) a), r))
 
 pub counts_exactly : Claims.CountsExactly
@@ -131,10 +131,10 @@ counts_exactly s a b buffer = go (explained s a b buffer)
   where
     go : Explained s a b buffer
         → ((n : ℕ) × (explanation_of s a b buffer ≡ ByCounts n)) ↔ ((explain_refusal s a b buffer ≡ 0) × (access (lending s b) a ≡ false))
-    go (refused f r w) = (λ c. absurd (refused_counts (sym r ∙ c.1)), λ c. absurd (f c.0))
+    go (refused f r w) = (λ c. absurd (cc (sym r ∙ c.1)), λ c. absurd (f c.0))
     go (by_counts z x r w) = (λ c. (z, no_access (lending s b) a x), λ c. (length (least_counts (lending s b)), r))
     go (by_chain k z x r w) =
-        (λ c. absurd (chain_counts (sym r ∙ c.1)), λ c. absurd (fails c.1 (has_access (lending s b) a k x)))
+        (λ c. absurd (cc (sym r ∙ c.1)), λ c. absurd (fails c.1 (has_access (lending s b) a k x)))
 
 pub explain_order : Claims.ExplainOrder
 explain_order s a b buffer = refl
@@ -169,8 +169,8 @@ refusal_writes_none s a b buffer n e = go (explained s a b buffer)
   where
     go : Explained s a b buffer → explained_buffer s a b buffer ≡ buffer
     go (refused f r w) = w
-    go (by_counts z x r w) = absurd (refused_counts (sym e ∙ r))
-    go (by_chain k z x r w) = absurd (refused_chain (sym e ∙ r))
+    go (by_counts z x r w) = absurd (cc (sym e ∙ r))
+    go (by_chain k z x r w) = absurd (cc (sym e ∙ r))
 
 pub reason_fits : Laws.ReasonFits
 reason_fits s a b = go (answer (lending s b) a)

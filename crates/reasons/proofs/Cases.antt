@@ -1,22 +1,19 @@
 -- An explanation is one of three: a refusal, a chain, or counts.
 --     refused_so, explained_so                        what is answered and written, by the refusal
 --     Explained, explained                            the three cases
---     chain_counts, refused_chain, refused_counts     the cases told apart
 -- Assumes nothing.
 use Prim.Native.Nat.{ℕ}
-use mathlib.Core.Path.{◌≡◌, refl, sym, ap}
-use mathlib.Core.Bool.{Bool, true, false}
+use mathlib.Core.Path.{◌≡◌, refl}
 use mathlib.Core.List.{List, ◌++◌}
 use native.Mathlib.Decide.{ℕ_discrete}
 use borrow.Author.Tests.{ne_eqb}
 use lib.ListN.{length, drop}
 use Rattle.std.proofs.Common.{Some, None}
 use Rattle.state.specs.Site.{Site}
-use Rattle.state.proofs.Bools.{fails}
 use Rattle.access.specs.Lending.{lending}
 use Rattle.access.specs.Answer.{Answer, answer, least_counts}
 use Rattle.chains.specs.First.{first_chain}
-use Rattle.reasons.specs.Explanation.{Explanation, Unexplained, ByChain, ByCounts, bytes_for, explain_refusal, which, explanation_of, explained_buffer}
+use Rattle.reasons.specs.Explanation.{Unexplained, ByChain, ByCounts, bytes_for, explain_refusal, which, explanation_of, explained_buffer}
 use Rattle.reasons.specs.Laws
 
 pub refused_so : Laws.RefusedSo
@@ -56,13 +53,3 @@ explained s a b buffer = go (ℕ_discrete (explain_refusal s a b buffer) 0)
     go : Dec (explain_refusal s a b buffer ≡ 0) → Explained s a b buffer
     go (yes e) = answered (answer (lending s b) a) refl e
     go (no f) = let so = refused_so s a b buffer (explain_refusal s a b buffer) refl f in refused f so.0 so.1
-
--- ---- the cases told apart
-pub chain_counts : {n m : ℕ} → ByChain n ≡ ByCounts m → ⊥
-chain_counts e = cc
-
-pub refused_chain : {n m : ℕ} → Unexplained n ≡ ByChain m → ⊥
-refused_chain e = cc
-
-pub refused_counts : {n m : ℕ} → Unexplained n ≡ ByCounts m → ⊥
-refused_counts e = cc
