@@ -13,11 +13,10 @@ use Rattle.relations.proofs.Laws.{packed_length, packed_fit, cells_of_packed, pa
 use Rattle.soundness.specs.Sound.{Sound}
 use Rattle.instructions.specs.Instructions.{Bytes}
 use Rattle.machine.specs.Step.{step_of, run, reply_of}
-use Rattle.machine.specs.declared.Outcome.{Outcome}
 use Rattle.machine.proofs.Laws.{run_none, run_more}
 use Rattle.refinement.specs.Refinement.{record_of}
 use Rattle.refinement.specs.Claims
-use Rattle.refinement.specs.Claims.{Steps, run_by}
+use Rattle.refinement.specs.Claims.{Outcome, Steps, run_by}
 
 -- ---- one to one
 sized : (n : ℕ) (cells : List Bool) → Sized n (packed n cells)

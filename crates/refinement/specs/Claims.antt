@@ -7,9 +7,7 @@ use Rattle.state.specs.Stands.{site, Fits}
 use Rattle.state.specs.declared.State.{State}
 use Rattle.soundness.specs.Sound.{Sound}
 use Rattle.instructions.specs.Instructions.{Bytes}
-use Rattle.machine.specs.Step.{step_of, run, reply_of}
-use Rattle.machine.specs.declared.Outcome.{Outcome}
-use Rattle.machine.specs.declared.Reply.{Reply}
+use Rattle.machine.specs.Step.{Reply, step_of, run, reply_of}
 use Rattle.refinement.specs.Refinement.{record_of}
 
 -- ---- "one to one"
@@ -30,6 +28,12 @@ abbrev pub SoundAlike : Type 0
 SoundAlike = (t : Site) → Shaped t → Sound t ↔ Sound (site (record_of t))
 
 -- ---- "every instruction and question gives the same answers on both"
+-- What a step gives: the number of its refusal, 0 for none (verdicts, `refusal_number` of its result), and the record that
+-- it leaves.
+pub record Outcome : Type 0 where
+  pub refusal : ℕ
+  pub state : State
+
 -- What `machine::step` promises, of any function on new records: its number and its state are those of `step_of`, the
 -- machine on old records.
 pub record Steps (step : State → Bytes → Outcome) : Type 0 where
@@ -56,7 +60,7 @@ SameRun =
     (step : State → Bytes → Outcome) → Steps step → (t : Site) → Shaped t → (list : List Bytes)
     → run_by step (record_of t) list ≡ record_of (run t list)
 
--- what `machine::ask` promises: the same reply to every question
+-- what `machine::ask` promises of the reply that its result stands for (`as_reply`): the same to every question
 abbrev pub SameReply : Type 0
 SameReply =
     (ask : State → ℕ → ℕ → Reply) → ((s : State) (a b : ℕ) → ask s a b ≡ reply_of (site s) a b)
