@@ -20,7 +20,10 @@ pub fn check(s: &State, bytes: Bytes) -> Result<(), Refusal>
     ensures { refusal_number result ≡ step_refusal (site s.now) bytes }
 {
     if inspection::is_sound(s) {
-        let x = instructions::decode(bytes)?;
+        let decoded = instructions::decode(bytes);
+        let Ok(x) = decoded else {
+            return decoded.map(|_| ());
+        };
         refusals::check(s, x, bytes.activator, bytes.a, bytes.b)
     } else {
         Err(Refusal::UnsoundState)
