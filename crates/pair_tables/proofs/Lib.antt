@@ -3,3 +3,4 @@ mod Order
 mod Pairs
 pub mod Laws
 mod AtHand
+mod Walk

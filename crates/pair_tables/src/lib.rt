@@ -2,67 +2,48 @@
 #![tactic(auto)]
 
 ghost use Rattle.std.specs.Prelude.{◌≡◌, ◌+◌, ◌*◌, ◌≤◌, ◌<◌, length, set};
-ghost use Rattle.state.specs.Below.{each_below};
 ghost use Rattle.bits.specs.Rows.{cells_of};
-ghost use Rattle.pair_tables.specs.Pairs.{second_byte, pairs_fit, pairs_ascend, with_pairs};
-ghost use Rattle.pair_tables.specs.Runs.{pair_fits_from, number_at};
+ghost use Rattle.pair_tables.specs.Pairs.{pairs_fit, pairs_ascend, with_pairs};
+ghost use Rattle.pair_tables.specs.Numbers.{number_at};
 
 use state::State;
 
 // How many bytes a pair has.
 pub const PAIR_SIZE: usize = 2;
 
-// Is the first number below the limit and the second that of an area, in each of so many pairs from pair k on?
-fn run_fits(table: &[u8], k: usize, count: usize, limit: u8) -> bool
-    requires { (k + count) * 2 ≤ length table.now }
-    ensures { result ≡ each_below count (pair_fits_from limit table.now k) }
+// Is the first number of each pair below the limit, and the second that of an area?
+pub fn all_fit(table: &[u8], limit: u8) -> bool
+    ensures { result ≡ pairs_fit limit table.now }
 {
+    // By `&` and to the end, so that the compiler compares many bytes at once.
     let mut fits = true;
-    for i in 0..count {
-        fits = fits
-            & ((table[(k + i) * PAIR_SIZE] < limit)
-                & (table[(k + i) * PAIR_SIZE + 1] < State::AREAS));
+    for pair in table.chunks_exact(PAIR_SIZE) {
+        fits &= (pair[0] < limit) & (pair[1] < State::AREAS);
     }
     fits
 }
 
-// Is the first number of each pair below the limit, and the second that of an area? Eight pairs at a time, so that the
-// compiler compares sixteen bytes at once.
-pub fn all_fit(table: &[u8], limit: u8) -> bool
-    ensures { result ≡ pairs_fit limit table.now }
+// The two bytes of a pair as one number, the first as the high one: of two pairs the earlier has the lower number.
+fn number_of(pair: &[u8]) -> u16
+    requires { length pair.now ≡ 2 }
+    ensures { result ≡ number_at pair.now 0 }
 {
-    let count = table.len() / PAIR_SIZE;
-    let mut k: usize = 0;
-    let mut fits = true;
-    while k + 8 <= count {
-        fits = fits & run_fits(table, k, 8, limit);
-        k = k + 8;
-    }
-    fits & run_fits(table, k, count - k, limit)
-}
-
-// The two bytes of pair k as one number, the first as the high one: of two pairs the earlier has the lower number.
-fn number_at(table: &[u8], k: usize) -> u16
-    requires { k * 2 + 1 < length table.now }
-    ensures number { result ≡ number_at table.now k }
-    ensures low_byte { second_byte table.now k < 256 }
-{
-    table[k * PAIR_SIZE] as u16 * 256 + table[k * PAIR_SIZE + 1] as u16
+    u16::from_be_bytes([pair[0], pair[1]])
 }
 
 // Does each pair come before the next? The number of the last pair is carried along, so that each pair is read once.
 pub fn all_ascend(table: &[u8]) -> bool
     ensures { result ≡ pairs_ascend table.now }
 {
-    let count = table.len() / PAIR_SIZE;
-    if count == 0 {
+    let mut pairs = table.chunks_exact(PAIR_SIZE);
+    let Some(first) = pairs.next() else {
         return true;
-    }
-    let mut last = number_at(table, 0);
+    };
+    let mut last = number_of(first);
     let mut ascends = true;
-    for k in 1..count {
-        let next = number_at(table, k);
-        ascends = ascends & (last < next);
+    for pair in pairs {
+        let next = number_of(pair);
+        ascends &= last < next;
         last = next;
     }
     ascends
@@ -72,6 +53,7 @@ pub fn all_ascend(table: &[u8]) -> bool
 fn store(rows: &mut [u32], first: u8, row: u32)
     ensures { rows.new ≡ set rows.old first row }
 {
+    // By index and not by `get_mut`, after which a proof knows the length alone of what was lent.
     let at = first as usize;
     if at < rows.len() {
         rows[at] = row;
@@ -94,15 +76,13 @@ fn turned(rows: &mut [u32], at: u8, row: u32, first: u8) -> u32
 pub fn fill(rows: &mut [u32], table: &[u8])
     ensures { cells_of rows.new ≡ with_pairs table.now (cells_of rows.old) }
 {
-    let count = table.len() / PAIR_SIZE;
     let mut at: u8 = 0;
     let mut row = relations::row_of(rows, 0);
-    for k in 0..count {
-        let first = table[k * PAIR_SIZE];
+    for pair in table.chunks_exact(PAIR_SIZE) {
+        let first = pair[0];
         let own = turned(rows, at, row, first);
-        let more = bits::with_bit(own, table[k * PAIR_SIZE + 1], true);
+        row = bits::with_bit(own, pair[1], true);
         at = first;
-        row = more;
     }
     store(rows, at, row);
 }

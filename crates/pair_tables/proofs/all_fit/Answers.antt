@@ -1,34 +1,28 @@
--- `pair_tables::all_fit` meets its contract. The loop's invariant: what fits so far is whether each of the first k
--- pairs does.
+-- `pair_tables::all_fit` meets its contract. The loop's invariant: what fits so far is whether each pair does that was
+-- taken.
 -- Assumes nothing.
-use Prim.Native.Nat.{ℕ, ◌+◌, ◌-◌}
-use mathlib.Core.Path.{◌≡◌, sym, ap, ap₂, ◌∙◌}
-use mathlib.Core.Bool.{Bool, ◌&&◌}
-use mathlib.Core.List.{List}
-use native.Mathlib.Omega.{arith}
-use Rattle.state.specs.Below.{each_below}
-use Rattle.state.proofs.Below.{each_none, each_add}
-use Rattle.pair_tables.specs.Pairs.{pair_count, pair_fits, pairs_fit}
-use Rattle.pair_tables.specs.Runs.{pair_fits_from}
+use mathlib.Core.Path.{sym, ap₂}
+use mathlib.Core.Bool.{◌&&◌}
+use mathlib.Core.List.{[], ◌∷◌}
+use lib.Dec.{ltb}
+use lib.ListN.{length-append}
+use Rattle.state.proofs.Below.{each_none, each_step, each_end}
+use Rattle.pair_tables.specs.Pairs.{pairs_fit}
+use Rattle.pair_tables.proofs.Walk.{begun, ended, taken}
 use Rattle.pair_tables.proofs.all_fit.Goals as goal
 
--- so many pairs more
-more : (bound : ℕ) (t : List ℕ) (k n : ℕ) (fits new : Bool) → fits ≡ each_below k (pair_fits bound t) → new ≡ each_below n (pair_fits_from bound t k)
-    → fits && new ≡ each_below (k + n) (pair_fits bound t)
-more bound t k n fits new e h = ap₂ ◌&&◌ e h ∙ sym (each_add (pair_fits bound t) k n)
+pub loop-pair-init : goal.loop-pair-init
+loop-pair-init c = (begun (cc) (cc), sym (each_none _))
 
-pub loop-k-init : goal.loop-k-init
-loop-k-init c = (omega arith, sym (each_none _))
-
-pub loop-k-preserved : goal.loop-k-preserved
-loop-k-preserved c =
+pub loop-pair-preserved : goal.loop-pair-preserved
+loop-pair-preserved c =
     let x = c.args in
-    (omega arith, more x.limit x.table.now _ 8 _ _ c.loop-k.invariant.1 c.run_fits-fits.ensures)
+    let top = c.loop-pair in
+    let step = c.in-Some.ensures.steps in
+    let pair = taken x.table.now _ c.in-Some.pair.now _ _ _ _ top.invariant.0 step.0 step.1.0 step.1.1 in
+    let fits = ap₂ (λ i j. ltb i x.limit && ltb j 32) pair.first pair.second in
+    rw (length-append top.yielded (c.in-Some.pair ∷ [])) (pair.left, each_step _ _ _ _ top.invariant.1 fits)
 
 pub returns : goal.returns
 unfolding pairs_fit
-returns c =
-    let x = c.args in
-    let k = c.loop-k.k in
-    let all : k + (pair_count x.table.now - k) ≡ pair_count x.table.now = omega arith in
-    more x.limit x.table.now k _ _ _ c.loop-k.invariant.1 c.run_fits.ensures ∙ ap (λ (n : ℕ). each_below n (pair_fits x.limit x.table.now)) all
+returns c = each_end _ _ _ _ (ended c.loop-pair.invariant.0 c.in-None.ensures.steps.1.0) c.loop-pair.invariant.1
