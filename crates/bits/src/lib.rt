@@ -71,7 +71,7 @@ pub fn size(row: u32) -> u8
     u32::count_ones(row) as u8
 }
 
-// The lowest place in the row, 32 if none is.
+// The lowest place in the row, 32 if none is: a number, and no Option, since the claims on `lowest` speak of 32.
 pub fn lowest(row: u32) -> u8
     ensures equation { result ≡ lowest row }
     ensures lowest_set { Lowest row result }

@@ -123,20 +123,19 @@ fn odd_row(here: u32, there: u32, block: usize, mask: u32) -> u32
 }
 
 // One exchange: the rows k and k + 16 give each other half of their blocks, and become the rows 2 * k and 2 * k + 1.
-fn exchange<'a>(to: &'a mut [u32; 32], from: &'a [u32; 32], block: usize, mask: u32)
-    requires { (block < 32) × T (is_mask block mask) × (length to.old ≡ 32) }
-    ensures { to.new ≡ exchanged block mask from.now }
+fn exchange(rows: &[u32; 32], block: usize, mask: u32) -> [u32; 32]
+    requires { (block < 32) × T (is_mask block mask) }
+    ensures { result ≡ exchanged block mask rows.now }
 {
-    // A copy, so that the compiler knows that the two do not overlap.
-    let rows = *from;
+    let mut out = [0u32; 32];
+    // By index: a turn reads two rows, and writes two others.
     for k in 0..16usize {
-        let a = rows[k];
-        let b = rows[k + 16];
-        let even = even_row(a, b, block, mask);
-        to[2 * k] = even;
-        let odd = odd_row(b, a, block, mask);
-        to[2 * k + 1] = odd;
+        let here = rows[k];
+        let there = rows[k + 16];
+        out[2 * k] = even_row(here, there, block, mask);
+        out[2 * k + 1] = odd_row(there, here, block, mask);
     }
+    out
 }
 
 // A relation between areas with each pair turned round, by five exchanges: of blocks of 16 places, of 8, 4 and 2, and
@@ -144,12 +143,9 @@ fn exchange<'a>(to: &'a mut [u32; 32], from: &'a [u32; 32], block: usize, mask: 
 pub fn transposed(rows: &[u32; 32]) -> [u32; 32]
     ensures { cells_of result ≡ transpose (cells_of rows.now) }
 {
-    let mut a = [0u32; 32];
-    let mut b = [0u32; 32];
-    exchange(&mut a, rows, 16, 0x0000_ffff);
-    exchange(&mut b, &a, 8, 0x00ff_00ff);
-    exchange(&mut a, &b, 4, 0x0f0f_0f0f);
-    exchange(&mut b, &a, 2, 0x3333_3333);
-    exchange(&mut a, &b, 1, 0x5555_5555);
-    a
+    let by_16 = exchange(rows, 16, 0x0000_ffff);
+    let by_8 = exchange(&by_16, 8, 0x00ff_00ff);
+    let by_4 = exchange(&by_8, 4, 0x0f0f_0f0f);
+    let by_2 = exchange(&by_4, 2, 0x3333_3333);
+    exchange(&by_2, 1, 0x5555_5555)
 }

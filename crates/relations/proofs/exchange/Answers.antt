@@ -12,8 +12,8 @@ pub loop-k-preserved : goal.loop-k-preserved
 loop-k-preserved c =
     let k : ℕ = c.loop-k.k in
     filled_to _ _ _ _ _ (omega arith)
-    (filled_more _ _ _ (2 * k + 1) _ _ (omega arith) (c.odd_row-odd.ensures ∙ odd_row _ _ _ k)
-    (filled_more _ _ _ (2 * k) _ _ (omega arith) (c.even_row-even.ensures ∙ even_row _ _ _ k) c.loop-k.invariant))
+    (filled_more _ _ _ (2 * k + 1) _ _ (omega arith) (c.odd_row.ensures ∙ odd_row _ _ _ k)
+    (filled_more _ _ _ (2 * k) _ _ (omega arith) (c.even_row.ensures ∙ even_row _ _ _ k) c.loop-k.invariant))
 
 pub returns : goal.returns
 unfolding exchanged

@@ -6,4 +6,4 @@ use Rattle.relations.specs.Turning.{exchanged_row}
 use Rattle.relations.proofs.exchange.Given as goal
 
 abbrev pub invariant-loop-k : goal.invariant-loop-k
-invariant-loop-k l = Filled (exchanged_row l.block l.mask l.from) 0 32 (2 * l.k) l.to
+invariant-loop-k l = Filled (exchanged_row l.block l.mask l.rows) 0 32 (2 * l.k) l.out
