@@ -4,9 +4,8 @@ use Prim.Native.Nat.{ℕ, ◌*◌, ◌≤◌}
 use mathlib.Core.Path.{◌≡◌}
 use mathlib.Core.List.{List}
 use native.Mathlib.Omega.{arith}
-use Rattle.std.proofs.lemmas.List.{length-replicate}
 use Rattle.bits.specs.Rows.{Rows, cells_of}
-use Rattle.state.proofs.Fill.{Filled, filled_none, filled_more}
+use Rattle.state.proofs.Fill.{Filled, filled_more}
 use Rattle.relations.proofs.Laws.{rows_of_test}
 use Rattle.records.specs.Record.{is_set, cells_at}
 use Rattle.record_reader.proofs.Bytes.{row_of_bytes}
@@ -17,9 +16,6 @@ use Rattle.record_reader.proofs.rows.Invariants.{row_at}
 all_read : (bytes : List ℕ) (at n i : ℕ) (rows : Rows) → n ≤ i → Filled (row_at bytes at) 0 n i rows → cells_of rows ≡ cells_at bytes at (n * 32)
 unfolding row_at
 all_read bytes at n i rows h t = rows_of_test n (is_set bytes at) rows t.long (λ k l. t.front k (omega arith))
-
-pub loop-i-init : goal.loop-i-init
-loop-i-init g c = filled_none _ _ _ _ (length-replicate _ _)
 
 pub loop-i-preserved : goal.loop-i-preserved
 unfolding row_at
