@@ -54,7 +54,8 @@ none_of_six p q r t v w e =
     let e1 = neither p q e2.0 in
     (e1.0, e1.1, e2.1, e3.1, e4.1, e5.1)
 
--- the table of refusals with what the bytes fit as an argument: `refusals s bytes` is `table_of s bytes (decode_of bytes)`
+-- the table of refusals with what the bytes fit as an argument: `refusals s bytes` is
+-- `table_of s bytes (decode_of bytes)`
 abbrev pub table_of : Site → Bytes → Decoded → List Check
 table_of s bytes d = (12 when not (is_sound s)) ∷ (misfits d ++ checks_of s bytes d)
 

@@ -1,5 +1,5 @@
--- The rows of the table of instructions. The proofs of this crate go by rows, so an instruction that shares its row with
--- another has a clause here and nowhere else; but an add and its remove have one in TakingBack too.
+-- The rows of the table of instructions. The proofs of this crate go by rows, so an instruction that shares its row
+-- with another has a clause here and nowhere else; but an add and its remove have one in TakingBack too.
 -- Assumes nothing.
 use Prim.Native.Nat.{ℕ, zero, suc, ◌+◌}
 use mathlib.Core.Path.{◌≡◌, subst}

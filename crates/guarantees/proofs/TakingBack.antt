@@ -70,8 +70,8 @@ stays : (t : Site) (u : ℕ) (v : Bool) → T (listed t user u) → has_first (c
 stays t u v here owning = ap (λ (w : Bool). w && has_first (cells t owner) u) (is_true (listed t user u) here) ∙ owning
 
 -- ---- the remove
--- What the checks of the remove y ask, by their numbers: 3 to 7 of state t, which the add has given; 8 and 9 of state s.
--- And the state that the remove gives is s.
+-- What the checks of the remove y ask, by their numbers: 3 to 7 of state t, which the add has given; 8 and 9 of
+-- state s. And the state that the remove gives is s.
 record Removable (s t : Site) (x : Target) (l : Lookup) (m : MustOwn) (y : Bytes) : Type 0 where
   unmet_3 : not (listed t user y.activator) ≡ false
   unmet_4 : missing (seen_of t y.activator y.a y.b) x l ≡ false

@@ -7,17 +7,15 @@
 -- Assumes nothing.
 use Prim.Native.Nat.{ℕ, suc, ◌+◌, ◌≤◌, ◌<◌}
 use mathlib.Core.Path.{◌≡◌, sym, ap, subst, ◌∙◌}
-use mathlib.Core.Bool.{true, false, not}
+use mathlib.Core.Bool.{true, false}
 use mathlib.Core.List.{List, ◌∷◌}
 use native.Mathlib.Numerals.{add-one}
 use lib.ListN.{length, drop, drop_of_length-le}
 use lib.Seq.{drop-cons}
 use Rattle.state.specs.Site.{Site, Verdict, verdict}
-use Rattle.state.proofs.Bools.{is_true}
 use Rattle.state.proofs.Tabulate.{get_or_tabulate}
 use Rattle.soundness.specs.Sound.{Sound}
 use Rattle.soundness.specs.Tests.{is_sound}
-use Rattle.soundness.proofs.Laws.{sound_decided}
 use Rattle.instructions.specs.Instructions.{Bytes}
 use Rattle.machine.specs.Step.{step_of}
 use Rattle.guarantees.proofs.Demand3.{step_sound}
@@ -25,10 +23,6 @@ use Rattle.recipes.specs.Recipe.{instruction_count, instruction_at, recipe_instr
 use Rattle.recipes.specs.Run.{recipe_verdict, ran_from, recipe_of}
 use Rattle.recipes.specs.declared.Call.{Call}
 use Rattle.recipes.proofs.Laws.{formed_recipe, ran_none, ran_more, ran_stopped, list_length}
-
--- a sound state is not refused as 12
-pub not_unsound : (t : Site) → Sound t → not (is_sound t) ≡ false
-not_unsound t h = ap not (is_true (is_sound t) ((sound_decided t h.shaped).1 h))
 
 module _ (s : Site) (recipe : List ℕ) (call : Call) where
   abbrev list : List Bytes

@@ -1,9 +1,11 @@
 -- How a recipe runs (document 02, point 1, 'Site recipes'): "entirely or not at all".
 --     RecipeVerdict           a number, a place and a state
+--     as_verdict              what the code's answer and the state behind it are
 --     recipe_refusals         12 and 14, in their order
 --     ran_from                the instructions in turn
 --     recipe_of               what a recipe gives with a record, both of any content
-use Rattle.std.specs.Prelude.{ℕ, suc, not, cond, List, [], ◌∷◌, eqb}
+use Rattle.std.specs.Prelude.{ℕ, suc, not, cond, Result, Ok, Err, List, [], ◌∷◌, eqb}
+use Rattle.verdicts.specs.Refusals.{number}
 use Rattle.state.specs.Site.{Site}
 use Rattle.state.specs.Checks.{Check, ◌when◌, first_met}
 use Rattle.soundness.specs.Tests.{is_sound}
@@ -11,6 +13,7 @@ use Rattle.instructions.specs.Instructions.{Bytes}
 use Rattle.machine.specs.Step.{step_of}
 use Rattle.recipes.specs.Recipe.{recipe_instructions, misformed}
 use Rattle.recipes.specs.declared.Call.{Call}
+use Rattle.recipes.specs.declared.RecipeRefusal.{RecipeRefusal}
 
 -- the number of the refusal, 0 for none; the "place counted from 1" of the instruction that it is of, else 0; and the
 -- state after the recipe
@@ -21,6 +24,10 @@ pub record RecipeVerdict : Type 0 where
 
 abbrev pub recipe_verdict : (refusal place : ℕ) → Site → RecipeVerdict
 recipe_verdict n k s = record { refusal = n; place = k; state = s }
+
+abbrev pub as_verdict : {A : Type 0} → Result A RecipeRefusal → Site → RecipeVerdict
+as_verdict (Ok a) s = recipe_verdict 0 0 s
+as_verdict (Err r) s = recipe_verdict (number r.refusal) r.place s
 
 -- 14 "after 12 and before 1", over the whole recipe
 abbrev pub recipe_refusals : Site → (recipe : List ℕ) → List Check

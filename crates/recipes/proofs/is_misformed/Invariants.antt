@@ -1,14 +1,12 @@
--- `recipes::is_misformed` meets its contract. The loop's invariant: none of the first k instructions is misformed.
+-- `recipes::is_misformed` meets its contract. The loop's invariant: none of the instructions behind it is misformed.
 -- Assumes nothing.
-use Prim.Native.Nat.{◌-◌, ◌≤◌}
-use mathlib.Core.Path.{◌≡◌}
-use mathlib.Core.Bool.{false}
+use Rattle.std.proofs.Common.{◌≡◌, length, false}
 use Rattle.state.specs.Below.{some_below}
 use Rattle.recipes.specs.Recipe.{misformed_at}
+use Rattle.recipes.proofs.Chunks.{Left}
 use Rattle.recipes.proofs.is_misformed.Given as goal
 
-abbrev pub invariant-loop-k : goal.invariant-loop-k
-invariant-loop-k l = (l.k ≤ l.k-end) × (some_below l.k (misformed_at l.recipe) ≡ false)
-
-abbrev pub decreases-loop-k : goal.decreases-loop-k
-decreases-loop-k l = l.k-end - l.k
+abbrev pub invariant-loop-instruction : goal.invariant-loop-instruction
+invariant-loop-instruction l =
+    (goal.iterator-loop-instruction).can_next l.instruction-iterator × (goal.iterator-loop-instruction).is_finite l.instruction-iterator
+    × Left l.recipe (length l.yielded) l.instruction-iterator × (some_below (length l.yielded) (misformed_at l.recipe) ≡ false)
