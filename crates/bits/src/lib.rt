@@ -68,7 +68,7 @@ pub fn is_subset(a: u32, b: u32) -> bool
 pub fn size(row: u32) -> u8
     ensures { result ≡ size row }
 {
-    u32::count_ones(row) as u8
+    row.count_ones() as u8
 }
 
 // The lowest place in the row, 32 if none is: a number, and no Option, since the claims on `lowest` speak of 32.
@@ -76,7 +76,7 @@ pub fn lowest(row: u32) -> u8
     ensures equation { result ≡ lowest row }
     ensures lowest_set { Lowest row result }
 {
-    u32::trailing_zeros(row) as u8
+    row.trailing_zeros() as u8
 }
 
 // The row without its lowest place; a row without places stays as it is.
