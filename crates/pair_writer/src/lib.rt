@@ -15,17 +15,15 @@ fn put_row(out: &mut [u8], at: usize, first: u8, row: u32) -> usize
     ensures buffer { out.new ≡ laid (row_table first row) at out.old }
 {
     let mut end = at;
-    let mut rest = row;
-    while rest != 0 {
+    for area in bits::places(row) {
         let behind_first = output::put(out, end, first);
-        end = output::put(out, behind_first, bits::lowest(rest));
-        let others = bits::without_lowest(rest);
-        rest = others;
+        end = output::put(out, behind_first, area);
     }
     end
 }
 
-// Writes the pairs whose first number is below the limit, each row once.
+// Writes the pairs whose first number is below the limit, each row once. The rows are counted in a byte, since it is
+// written.
 pub fn put_pairs(out: &mut [u8], at: usize, rows: &[u32], limit: u8) -> usize
     ensures place { result ≡ place_behind at (table_of limit (pair (cells_of rows.now))) }
     ensures buffer { out.new
@@ -38,7 +36,8 @@ pub fn put_pairs(out: &mut [u8], at: usize, rows: &[u32], limit: u8) -> usize
     end
 }
 
-// How many pairs have a first number below the limit?
+// How many pairs have a first number below the limit? (A `for`: the sum of a part of a slice would need a second
+// function, for its bound.)
 pub fn pair_count(rows: &[u32], limit: u8) -> u16
     ensures { result ≡ pair_count (table_of limit (pair (cells_of rows.now))) }
 {

@@ -24,12 +24,12 @@ small rows first n k w few h = omega (arith, table_count first (pair (cells_of r
 
 pub loop-first-init : goal.loop-first-init
 unfolding table_below
-loop-first-init c = (omega arith, omega arith)
+loop-first-init c = omega arith
 
 pub overflow_add-n : goal.overflow_add-n
 overflow_add-n c =
-    record { fits = small _ _ _ _ c.loop-first.invariant.1 (omega arith) (omega arith) }
+    record { fits = small _ _ _ _ c.loop-first.invariant (omega arith) (omega arith) }
 
 pub loop-first-preserved : goal.loop-first-preserved
 loop-first-preserved c =
-    (omega arith, turn _ _ _ _ _ c.loop-first.invariant.1 c.row_of.ensures c.size.ensures)
+    turn _ _ _ _ _ c.loop-first.invariant c.row_of.ensures c.size.ensures

