@@ -18,8 +18,7 @@ use Rattle.label_tables.specs.Labels.{label_of}
 use Rattle.site_format.specs.Format.{labels, part}
 use Rattle.site_file.specs.Reading.{read_of}
 use Rattle.label_finder.proofs.Laws.{label_is_text}
-use Rattle.output.specs.Buffer.{written}
-use Rattle.output.specs.declared.Written.{Written}
+use Rattle.output.specs.Buffer.{Written, written}
 use Rattle.site_encoding.specs.Encode.{encode}
 use Rattle.site_encoding.specs.Claims.{Accepted}
 use Rattle.site_encoding.proofs.Laws.{single_encoding, encode_accepted, encode_most}

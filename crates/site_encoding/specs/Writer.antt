@@ -10,8 +10,7 @@ use Rattle.state.specs.Site.{Site}
 use Rattle.soundness.specs.Tests.{is_sound}
 use Rattle.label_tables.specs.Labels.{label_size, labels_fit, labels_ascend, labels_listed}
 use Rattle.site_encoding.specs.Encode.{encode}
-use Rattle.output.specs.declared.Written.{Written}
-use Rattle.output.specs.Buffer.{written, is_short}
+use Rattle.output.specs.Buffer.{Written, written, is_short}
 
 -- "a label block that has a partial entry": its length is no multiple of 32
 abbrev pub has_partial : (block : List ℕ) → Bool
