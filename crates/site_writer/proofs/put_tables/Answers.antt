@@ -1,37 +1,46 @@
--- `site_writer::put_tables` meets its contract: six tables, one behind the other. The body of a file nests to the
--- right, so they are put together from the last.
+-- `site_writer::put_tables` meets its contract. Turn k of the loop lays table k.
 -- Assumes nothing.
-use Prim.Native.Nat.{ℕ}
-use mathlib.Core.Path.{sym, subst}
-use mathlib.Core.List.{List, [], ◌++◌, append-nil}
-use Rattle.output.proofs.Placing.{Placed, placed_then, placed_known}
+use Prim.Native.Nat.{ℕ, ◌≤◌}
+use mathlib.Core.Path.{◌≡◌, ap, subst}
+use mathlib.Core.List.{List, map}
+use native.Mathlib.Omega.{arith}
+use lib.ListN.{get_or}
+use Rattle.state.specs.Site.{Site}
+use Rattle.output.proofs.Placing.{Placed, Turns, LaidTo, turns_none, turns_more, turns_all}
+use Rattle.site_format.specs.Format.{Content, tables, held}
+use Rattle.site_format.specs.declared.Table.{Table}
+use Rattle.site_format.specs.declared.Table.TheVariants.{Labels}
 use Rattle.state.specs.Stands.{site}
+use Rattle.site_encoding.specs.Encode.{content_of, body_of}
+use Rattle.site_writer.proofs.Left.{left, one_more, none_left}
 use Rattle.site_writer.proofs.put_tables.Goals as goal
 
--- nothing stands behind the last table
-last : (t : List ℕ) (at : ℕ) (b : List ℕ) (end : ℕ) (c : List ℕ) → Placed t at b end c → Placed (t ++ []) at b end c
-last t at b end c p = subst (λ (u : List ℕ). Placed u at b end c) (sym (append-nil t)) p
+by_tables : (s : Site) (l : List ℕ) (ts : List Table) → map held ts ≡ tables → (t : Table)
+    → Turns 6 (λ k. content_of s l (held (get_or ts k t))) (λ k. body_of s l (left ts k))
+by_tables s l ts e t =
+    record {
+      more = λ k h. ap (body_of s l) (one_more ts e k t h);
+      none = ap (body_of s l) (none_left ts e 6 (omega arith));
+    }
+
+-- after the last turn
+all_laid : (s : Site) (l : List ℕ) (ts : List Table) → map held ts ≡ tables → (k at : ℕ) (b : List ℕ) (end : ℕ) (c : List ℕ)
+    → LaidTo 6 (λ k. body_of s l (left ts k)) k at b end c → 6 ≤ k → Placed (body_of s l tables) at b end c
+all_laid s l ts e k at b end c w h =
+    subst (λ (cs : List Content). Placed (body_of s l cs) at b end c) e
+    (turns_all _ _ _ (by_tables s l ts e Labels) k at b end c w h)
+
+pub loop-table-init : goal.loop-table-init
+loop-table-init c = turns_none _ _ _ _ c.ranges.at.fits c.well_formed.0.0
+
+pub loop-table-preserved : goal.loop-table-preserved
+loop-table-preserved c =
+    let put = c.put_table-table_at.ensures in
+    let turns = by_tables (site c.args.s.now) c.args.labels.now _ c.all-table-items.ensures _ in
+    turns_more _ _ _ turns _ _ _ _ _ c.loop-table.invariant c.loop-table-test.true _ _ (put.place, put.buffer)
 
 pub returns : goal.returns
-unfolding site
 returns c =
-    let t₁ = c.put_pairs-owners_end.ensures in
-    let t₂ = c.put_pairs-definitions_end.ensures in
-    let t₃ = c.put_pairs-structure_end.ensures in
-    let t₄ = c.put_pairs-imports_end.ensures in
-    let t₅ = c.put_pairs-exports_end.ensures in
-    let t₆ = c.put_text.ensures in
-    let k₁ = c.well_formed.0.0 in
-    let k₂ = placed_known _ _ _ _ _ (t₁.place, t₁.buffer) k₁ in
-    let k₃ = placed_known _ _ _ _ _ (t₂.place, t₂.buffer) k₂ in
-    let k₄ = placed_known _ _ _ _ _ (t₃.place, t₃.buffer) k₃ in
-    let k₅ = placed_known _ _ _ _ _ (t₄.place, t₄.buffer) k₄ in
-    let p =
-    placed_then _ _ _ _ k₁ _ _ _ _ (t₁.place, t₁.buffer)
-    (placed_then _ _ _ _ k₂ _ _ _ _ (t₂.place, t₂.buffer)
-    (placed_then _ _ _ _ k₃ _ _ _ _ (t₃.place, t₃.buffer)
-    (placed_then _ _ _ _ k₄ _ _ _ _ (t₄.place, t₄.buffer)
-    (placed_then _ _ _ _ k₅ _ _ _ _ (t₅.place, t₅.buffer)
-    (last _ _ _ _ _ (t₆.place, t₆.buffer))))))
-    in
+    let p = all_laid (site c.args.s.now) c.args.labels.now _ c.all-table-items.ensures _ _ _ _ _ c.loop-table.invariant
+    c.loop-table-test.false in
     record { place = p.0; buffer = p.1 }

@@ -38,34 +38,34 @@ large_enough room n size e h = subst (λ (k : ℕ). k ≤ room) e h
 -- ---- what is asked, and what is returned
 pub returns-then-not-is_sound : goal.returns-then-not-is_sound
 returns-then-not-is_sound c =
-    let s = site c.args.s in
+    let s = site c.args.s.now in
     let l = c.args.labels.now in
     let r = refused_so _ _ _ 12 (is_12 _ _ _ (unsound s l c.is_sound.ensures.equation c.if-not-is_sound.true)) refl in
-    record { answer = c.refused.ensures ∙ r.0; buffer = r.1 }
+    record { answer = r.0; buffer = r.1 }
 
 pub returns-then-not-are_lawful : goal.returns-then-not-are_lawful
 returns-then-not-are_lawful c =
-    let s = site c.args.s in
+    let s = site c.args.s.now in
     let l = c.args.labels.now in
     let t₁ = sound s l c.is_sound.ensures.equation c.if-not-is_sound.false in
     let t₂ = unlawful s l c.are_lawful.ensures c.if-not-are_lawful.true in
     let r = refused_so _ _ _ 30 (is_30 _ _ _ t₁ t₂) refl in
-    record { answer = c.refused-then-not-are_lawful.ensures ∙ r.0; buffer = r.1 }
+    record { answer = r.0; buffer = r.1 }
 
 pub returns-then-file-length : goal.returns-then-file-length
 returns-then-file-length c =
-    let s = site c.args.s in
+    let s = site c.args.s.now in
     let l = c.args.labels.now in
     let t₁ = sound s l c.is_sound.ensures.equation c.if-not-is_sound.false in
     let t₂ = lawful s l c.are_lawful.ensures c.if-not-are_lawful.false in
     -- the length that is compared is the file's
     let long = stated_length _ _ _ c.fields_of-fields.ensures in
     let r = refused_so _ _ _ 31 (is_31 _ _ _ t₁ t₂ (too_short _ _ _ long c.if-file-length.true)) refl in
-    record { answer = c.refused-then-file-length.ensures ∙ r.0; buffer = r.1 }
+    record { answer = r.0; buffer = r.1 }
 
 pub returns : goal.returns
 returns c =
-    let s = site c.args.s in
+    let s = site c.args.s.now in
     let l = c.args.labels.now in
     let t₁ = sound s l c.is_sound.ensures.equation c.if-not-is_sound.false in
     let t₂ = lawful s l c.are_lawful.ensures c.if-not-are_lawful.false in
