@@ -5,7 +5,7 @@
 --     some_of                        a state that is not valid has lost one
 --     lost_of_one, lost_is_own       where one object alone has lost pairs
 --     given_shaped                   the state that an instruction would give has its shape
---     eleven_fits, eleven_sound      what 11 says of the bytes, and of the state given
+--     eleven_fits, eleven_valid      what 11 says of the bytes, and of the state given
 --     eleven_removes, eleven_invalid what 11 says of the instruction, and of the state that it would give
 -- Assumes nothing.
 use Prim.Native.Nat.{ℕ, ◌≤◌, ◌<◌}
@@ -29,7 +29,7 @@ use Rattle.access.specs.Lending.{Lending, lending}
 use Rattle.access.specs.Answer.{access}
 use Rattle.access.proofs.Laws.{other_pairs, lists_do_not_matter}
 use Rattle.soundness.specs.Sound.{Valid}
-use Rattle.soundness.specs.Tests.{is_valid, is_sound}
+use Rattle.soundness.specs.Tests.{is_well_formed, is_valid, no_own_import, is_sound}
 use Rattle.soundness.proofs.Laws.{valid_decided}
 use Rattle.instructions.specs.Instructions.{Bytes, rule}
 use Rattle.instructions.specs.Decode.{Decoded, decode_of, misfits}
@@ -191,16 +191,16 @@ eleven_met s x d q e = rw q at (met_at_lem 11 tt (refusals s x) (once_in (decode
     once_in (Ok y) = tt
     once_in (Err r) = tt
 
--- the bytes fit an instruction, and the state is sound
+-- the bytes fit an instruction, and the state is valid
 pub eleven_fits : (s : Site) (x : Bytes) → step_refusal s x ≡ 11 → (r : Refusal) → decode_of x ≡ Err r → ⊥
 eleven_fits s x e r q = eleven_met s x (Err r) q e
 
-pub eleven_sound : (s : Site) (x : Bytes) → step_refusal s x ≡ 11 → T (is_sound s)
-unfolding step_refusal
-eleven_sound s x e = go (test (is_sound s))
+pub eleven_valid : (s : Site) (x : Bytes) → step_refusal s x ≡ 11 → Valid s
+unfolding step_refusal is_sound
+eleven_valid s x e = go (test (is_sound s))
   where
-    go : T (is_sound s) ⊎ (is_sound s ≡ false) → T (is_sound s)
-    go (inl t) = t
+    go : T (is_sound s) ⊎ (is_sound s ≡ false) → Valid s
+    go (inl t) = (valid_decided s).0 (and_right (is_well_formed s) (is_valid s) (and_left (is_well_formed s && is_valid s) (no_own_import s) t))
     go (inr f) = let unsound : first_met (refusals s x) ≡ 12 = met _ _ (ap not f) in absurd (omega arith)
 
 pub eleven_removes : Laws.ElevenRemoves

@@ -1,2 +1,0 @@
--- The functions promise definitions of `reasons`. Parts has what one of them asks of another.
-pub mod Parts
