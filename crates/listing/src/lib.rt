@@ -12,6 +12,7 @@ fn firsts_of(rows: &[u32]) -> u32
     ensures { result ≡ word 32 (has_first (cells_of rows.now)) }
 {
     let mut out: u32 = 0;
+    // k is the number that is asked about, and its place in the row; no slice is indexed.
     for k in 0..32u8 {
         out = bits::with_bit(out, k, relations::in_row(rows, k));
     }
