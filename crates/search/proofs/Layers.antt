@@ -9,21 +9,23 @@ use native.Mathlib.Omega.{arith}
 use native.Mathlib.Nat.{add-zero, add-suc}
 use native.Mathlib.Numerals.{add-one}
 use native.Mathlib.Decide.{dec_lt}
-use borrow.Author.Tests.{eqb-true}
-use lib.Dec.{T, T_not, not_T}
+use native.Mathlib.Nat.{le_refl}
+use borrow.Author.Tests.{eqb-true, eq-eqb}
+use lib.Dec.{T, T_not, not_T, eqb}
 use lib.Seq.{ext_get_or}
-use Rattle.std.proofs.Common.{Some, None}
-use Rattle.bits.specs.Bits.{bit, places, word, union, difference, is_empty, is_subset}
-use Rattle.bits.proofs.Laws.{bit_zero, bit_past, word_bit, word_fits, word_is, same_word, union_bit, difference_bit, difference_fits, subset_decided}
-use Rattle.state.specs.Below.{some_below}
-use Rattle.state.proofs.Below.{some_by, some_at}
-use Rattle.state.proofs.Bools.{and_both, and_left, and_right, same_test, is_true, is_false, holds, fails, test}
+use Rattle.std.proofs.Common.{Some, None, is_some}
+use Rattle.bits.specs.Bits.{bit, places, word, with_bit, union, difference, is_subset}
+use Rattle.bits.proofs.Laws.{bit_zero, bit_past, with_bit_bit, word_bit, word_fits, word_is, same_word, difference_bit, difference_fits, subset_decided}
+use Rattle.state.specs.Below.{some_below, first_below, found_below}
+use Rattle.state.proofs.Below.{some_by, some_at, none_at, found_is, found_none, first_or_none}
+use Rattle.state.proofs.Bools.{and_both, and_left, and_right, same_test, is_true, is_false, not_same, holds, fails, test}
 use Rattle.access.specs.Answer.{Answer, longest, Areas, has, reached, answer_within, next_answer}
-use Rattle.access.specs.Claims.{is_steps}
+use Rattle.access.specs.Chain.{Chain}
+use Rattle.access.specs.Claims.{is_steps, RightWithin}
 use Rattle.access.proofs.Reach.{chain_of, reached_by, reached_area, reached_more, reached_next, reached_back, has_tabulate}
 use Rattle.access.proofs.Saturate.{reached_length, Stable, stable_from}
-use Rattle.access.proofs.Laws.{reached_is_steps}
-use Rattle.search.specs.Rounds.{next_to, reachable}
+use Rattle.access.proofs.Laws.{reached_is_steps, answer_within_is_right}
+use Rattle.search.specs.Rounds.{next_to, all_within, reachable}
 
 module _ (start : ℕ → Bool) (move : ℕ → ℕ → Bool) where
   -- the areas reached within n steps, and those reached first in n
@@ -157,17 +159,57 @@ module _ (start : ℕ → Bool) (move : ℕ → ℕ → Bool) where
       go (Some k) q = absurd (fails q tt)
       go None q = refl
 
-  -- whether each wanted area is reached, found in three places of a search: all are by now, no area is new, the last round is over
-  pub within_found : (n wanted all : ℕ) (r : Bool) → n ≤ longest → all ≡ reached_row n → r ≡ is_subset wanted all → r ≡ true → true ≡ is_subset wanted (reachable start move)
-  within_found n wanted all r h e p t = sym (early n wanted h (sym (p ∙ ap (is_subset wanted) e) ∙ t))
+  -- ---- whether each wanted area is reached
+  -- within n steps, by what the search finds
+  pub within_now : (n wanted all : ℕ) (r v : Bool) → all ≡ reached_row n → r ≡ is_subset wanted all → r ≡ v → all_within start move wanted n ≡ v
+  unfolding all_within
+  within_now n wanted all r v e p t = sym (p ∙ ap (is_subset wanted) e) ∙ t
 
-  pub within_ended : (n wanted all new : ℕ) (r : Bool) → n ≤ longest → all ≡ reached_row n → new ≡ layer_row (suc n) → is_empty new ≡ true
-      → r ≡ is_subset wanted all → r ≡ is_subset wanted (reachable start move)
-  within_ended n wanted all new r h e la none p =
-      p ∙ ap (is_subset wanted) (e ∙ all_reached n h (sym la ∙ eqb-true new 0 none))
+  -- they are within n steps, and not within fewer
+  pub found_steps : (n wanted : ℕ) → n ≤ longest → some_below n (all_within start move wanted) ≡ false → all_within start move wanted n ≡ true
+      → Some n ≡ found_below (suc longest) (all_within start move wanted)
+  found_steps n wanted h none t = sym (found_is (all_within start move wanted) (suc longest) n (omega arith) t (none_at (all_within start move wanted) n none))
 
-  pub within_last : (n wanted all : ℕ) (r : Bool) → n ≡ longest → all ≡ reached_row n → r ≡ is_subset wanted all → r ≡ is_subset wanted (reachable start move)
-  within_last n wanted all r h e p = p ∙ ap (is_subset wanted) (e ∙ last_reached n h)
+  -- all that is reached is reached within n steps, and they are not
+  pub found_no_steps : (n wanted : ℕ) → reached_row n ≡ reachable start move → all_within start move wanted n ≡ false
+      → None ≡ found_below (suc longest) (all_within start move wanted)
+  unfolding all_within
+  found_no_steps n wanted e far = sym (found_none (all_within start move wanted) (suc longest) (λ k h. is_false _ (λ t. fails never (holds (early k wanted (omega arith) (is_true _ t))))))
+    where
+      never : is_subset wanted (reachable start move) ≡ false
+      never = ap (is_subset wanted) (sym e) ∙ far
+
+  -- they are within some number of steps where they are reached at all
+  pub some_within : (wanted : ℕ) → some_below (suc longest) (all_within start move wanted) ≡ is_subset wanted (reachable start move)
+  unfolding all_within reachable
+  some_within wanted = same_test _ _ there back
+    where
+      there : T (some_below (suc longest) (all_within start move wanted)) → T (is_subset wanted (reachable start move))
+      there t =
+          let s = some_at (all_within start move wanted) (suc longest) t in
+          let b : s.place < suc longest = s.below in
+          holds (early s.place wanted (omega arith) (is_true _ s.met))
+
+      back : T (is_subset wanted (reachable start move)) → T (some_below (suc longest) (all_within start move wanted))
+      back t = some_by (all_within start move wanted) (suc longest) longest (omega arith) t
+
+  -- one area is within n steps where it is reached in them
+  pub one_within : (a n : ℕ) → a < places → all_within start move (with_bit 0 a true) n ≡ near n a
+  unfolding all_within
+  one_within a n h = same_test _ _ there back
+    where
+      one : (k : ℕ) → k < places → bit (with_bit 0 a true) k ≡ cond (eqb k a) true (bit 0 k)
+      one k l = with_bit_bit 0 a true k l
+
+      there : T (is_subset (with_bit 0 a true) (reached_row n)) → T (near n a)
+      there t = subst T (reached_bit n a) ((subset_decided (with_bit 0 a true) (reached_row n)).0 t a h (subst T (sym (one a h ∙ ap (λ (b : Bool). cond b true (bit 0 a)) (eq-eqb a a refl))) tt))
+
+      back : T (near n a) → T (is_subset (with_bit 0 a true) (reached_row n))
+      back t = (subset_decided (with_bit 0 a true) (reached_row n)).1 (λ k l p. subst T (sym (reached_bit n k)) (go k (test (eqb k a)) (subst T (one k l) p)))
+        where
+          go : (k : ℕ) → T (eqb k a) ⊎ (eqb k a ≡ false) → T (cond (eqb k a) true (bit 0 k)) → T (near n k)
+          go k (inl e) p = subst (λ (m : ℕ). T (near n m)) (sym (eqb-true k a (is_true _ e))) t
+          go k (inr e) p = absurd (fails (bit_zero k) (rw e at p))
 
   pub found_first : (a : ℕ) → bit (reached_row 0) a ≡ true → Some 0 ≡ answer_within start move longest a
   unfolding longest answer_within
@@ -193,13 +235,36 @@ module _ (start : ℕ → Bool) (move : ℕ → ℕ → Bool) where
   unfolding reachable
   never n a far e = sym (unanswered longest a (sym (reached_bit longest a) ∙ ap (λ (r : ℕ). bit r a) (sym e) ∙ far))
 
-  -- an area that is neither reached nor in the next layer is not reached next
-  pub not_more : (n a : ℕ) → bit (reached_row n) a ≡ false → bit (layer_row (suc n)) a ≡ false → bit (reached_row (n + 1)) a ≡ false
-  not_more n a far e = ap (λ (k : ℕ). bit (reached_row k) a) (add-one n) ∙ go (dec_lt a places)
-    where
-      go : Dec (a < places) → bit (reached_row (suc n)) a ≡ false
-      go (yes h) = ap (λ (r : ℕ). bit r a) (sym (reached_row_lem n)) ∙ union_bit (reached_row n) (layer_row (suc n)) a h ∙ ap₂ ◌||◌ far e
-      go (no h) = bit_past places (reached_row (suc n)) a (word_fits places _) (omega arith)
+-- ---- the answer as the first number of steps that reaches the area
+pub answer_found : (start : ℕ → Bool) (move : ℕ → ℕ → Bool) (n a : ℕ) → answer_within start move n a ≡ found_below (suc n) (λ m. has (reached start move m) a)
+answer_found start move n a = go (answer_within start move n a) (answer_within_is_right start move n a)
+  where
+    near : ℕ → Bool
+    near m = has (reached start move m) a
+
+    far : (k m : ℕ) → m < k → ((j : ℕ) → Chain start move j a → k ≤ j) → near m ≡ false
+    far k m h least =
+        is_false _ (λ t.
+        let c = chain_of start move m a t in
+        let l = least c.0 c.2 in
+        omega (arith, c.1))
+
+    go : (x : Answer) → RightWithin start move n a x → x ≡ found_below (suc n) near
+    go (Some k) r =
+        let short : k ≤ n = r.short in
+        sym (found_is near (suc n) k (omega arith) (is_true _ (reached_by start move k r.shortest.chain (le_refl k))) (λ m h. far k m h r.shortest.least))
+    go None r =
+        sym (found_none near (suc n) (λ k h. is_false _ (λ t.
+        let c = chain_of start move k a t in
+        r c.0 (omega (arith, c.1)) c.2)))
+
+-- a number is found where some number meets the test
+pub found_some : (f : ℕ → Bool) (n : ℕ) → is_some (found_below n f) ≡ some_below n f
+found_some f n = go (eqb (first_below n f) n) ∙ ap not (first_or_none f n) ∙ not_same (some_below n f)
+  where
+    go : (b : Bool) → is_some (cond b None (Some (first_below n f))) ≡ not b
+    go true = refl
+    go false = refl
 
 -- the first layer is the areas that define the object
 pub first_row : (defined : ℕ) (move : ℕ → ℕ → Bool) → defined < 2 ^ places → defined ≡ reached_row (bit defined) move 0

@@ -1,15 +1,16 @@
 // The search for the areas that an object reaches, layer by layer: each layer is a row of bits.
 #![tactic(auto)]
 
-ghost use Rattle.std.specs.Prelude.{◌≡◌};
+ghost use Rattle.std.specs.Prelude.{◌≡◌, ℕ, suc, Bool};
 ghost use Rattle.bits.specs.Bits.{bit, is_subset};
 ghost use Rattle.bits.specs.Rows.{cells_of};
 ghost use Rattle.state.specs.Stands.{site};
 ghost use Rattle.relations.specs.Relations.{transpose};
 ghost use Rattle.access.specs.Lending.{lending};
-ghost use Rattle.access.specs.Answer.{longest, answer_within, answer, answer_number, least_count};
+ghost use Rattle.state.specs.Below.{found_below};
+ghost use Rattle.access.specs.Answer.{longest, answer, answer_number, least_count};
 ghost use Rattle.access.specs.Claims.{Right};
-ghost use Rattle.search.specs.Rounds.{object_in, move_by, next_to, reachable};
+ghost use Rattle.search.specs.Rounds.{object_in, move_by, next_to, all_within, reachable};
 
 use state::State;
 
@@ -35,24 +36,54 @@ pub fn object_of(s: &State, object: u8) -> Object
     }
 }
 
-// The areas that the object can move to in one step from an area of the layer: out of those that export it, and into
-// those that import it.
-fn next<'a>(
-    layer: u32,
-    structure: &'a [u32; 32],
-    transposed: &'a [u32; 32],
-    imported: u32,
-    exported: u32,
-) -> u32
-    ensures { result ≡ next_to (move_by (cells_of structure.now) (cells_of transposed.now)
-        (bit imported) (bit exported)) layer }
-{
-    let outward = relations::image(structure, bits::intersection(layer, exported));
-    let inward = relations::image(transposed, layer);
-    bits::union(outward, bits::intersection(inward, imported))
+// How an object moves: the areas that it can move to in one step from an area of the layer.
+trait Moves {
+    ghost move_of: { Self → ℕ → ℕ → Bool };
+
+    fn next(&self, layer: u32) -> u32
+        ensures { result ≡ next_to (move_of self.now) layer };
 }
 
-// The same for an object by itself, for which no transpose is made: the rows of those that import it are looked at.
+// The structure is at hand in both directions.
+#[derive(Clone, Copy)]
+struct Turned<'a> {
+    o: Object,
+    structure: &'a [u32; 32],
+    transposed: &'a [u32; 32],
+}
+
+impl<'a> Moves for Turned<'a> {
+    ghost move_of = { λ m. move_by (cells_of m.structure.now) (cells_of m.transposed.now) (bit m.o.imported)
+        (bit m.o.exported) };
+
+    // Out of the areas that export the object, and into those that import it.
+    fn next(&self, layer: u32) -> u32 {
+        let structure = self.structure;
+        let transposed = self.transposed;
+        let outward = relations::image(structure, bits::intersection(layer, self.o.exported));
+        let inward = relations::image(transposed, layer);
+        bits::union(outward, bits::intersection(inward, self.o.imported))
+    }
+}
+
+// An object by itself, for which no transpose is made.
+#[derive(Clone, Copy)]
+struct Alone<'a> {
+    o: Object,
+    structure: &'a [u32; 32],
+}
+
+impl<'a> Moves for Alone<'a> {
+    ghost move_of = { λ m. move_by (cells_of m.structure.now) (transpose (cells_of m.structure.now)) (bit m.o.imported)
+        (bit m.o.exported) };
+
+    fn next(&self, layer: u32) -> u32 {
+        let structure = self.structure;
+        next_alone(layer, structure, self.o.imported, self.o.exported)
+    }
+}
+
+// One step of an object by itself: the rows of those that import it are looked at.
 pub fn next_alone(layer: u32, structure: &[u32; 32], imported: u32, exported: u32) -> u32
     ensures { result ≡ next_to (move_by (cells_of structure.now) (transpose (cells_of structure.now))
         (bit imported) (bit exported)) layer }
@@ -60,6 +91,30 @@ pub fn next_alone(layer: u32, structure: &[u32; 32], imported: u32, exported: u3
     let outward = relations::image(structure, bits::intersection(layer, exported));
     let inward = relations::preimage(structure, layer, imported);
     bits::union(outward, inward)
+}
+
+// The least number of steps in which the object reaches each area that is wanted, if it does.
+fn least_steps<M: Moves>(moves: &M, defined: u32, wanted: u32) -> Option<u8>
+    ensures { result ≡ found_below (suc longest) (all_within (bit defined) (M.move_of moves.now) wanted) }
+{
+    let mut layer = defined;
+    let mut reached = defined;
+    for n in 0..LONGEST {
+        if bits::is_subset(wanted, reached) {
+            return Some(n);
+        }
+        let new = bits::difference(moves.next(layer), reached);
+        if bits::is_empty(new) {
+            return None;
+        }
+        reached = bits::union(reached, new);
+        layer = new;
+    }
+    if bits::is_subset(wanted, reached) {
+        Some(LONGEST)
+    } else {
+        None
+    }
 }
 
 // Does the object reach each area that is wanted? The structure comes with its transpose, which `relations::transposed`
@@ -73,22 +128,12 @@ pub fn reaches<'a>(
     ensures { result ≡ is_subset wanted (reachable (bit o.defined) (move_by (cells_of structure.now) (cells_of
         transposed.now) (bit o.imported) (bit o.exported))) }
 {
-    let mut layer = o.defined;
-    let mut reached = o.defined;
-    for n in 0..LONGEST {
-        if bits::is_subset(wanted, reached) {
-            return true;
-        }
-        let near = next(layer, structure, transposed, o.imported, o.exported);
-        let new = bits::difference(near, reached);
-        if bits::is_empty(new) {
-            return false;
-        }
-        let all = bits::union(reached, new);
-        reached = all;
-        layer = new;
-    }
-    bits::is_subset(wanted, reached)
+    let moves = Turned {
+        o: o,
+        structure: structure,
+        transposed: transposed,
+    };
+    least_steps(&moves, o.defined, wanted).is_some()
 }
 
 // The same, for an object by itself.
@@ -96,48 +141,11 @@ pub fn reaches_alone(o: Object, structure: &[u32; 32], wanted: u32) -> bool
     ensures { result ≡ is_subset wanted (reachable (bit o.defined) (move_by (cells_of structure.now) (transpose
         (cells_of structure.now)) (bit o.imported) (bit o.exported))) }
 {
-    let mut layer = o.defined;
-    let mut reached = o.defined;
-    for n in 0..LONGEST {
-        if bits::is_subset(wanted, reached) {
-            return true;
-        }
-        let near = next_alone(layer, structure, o.imported, o.exported);
-        let new = bits::difference(near, reached);
-        if bits::is_empty(new) {
-            return false;
-        }
-        let all = bits::union(reached, new);
-        reached = all;
-        layer = new;
-    }
-    bits::is_subset(wanted, reached)
-}
-
-// The number of steps in a shortest chain of the object to the area, if there is one.
-fn least_steps(o: Object, structure: &[u32; 32], area: u8) -> Option<u8>
-    ensures { result ≡ answer_within (bit o.defined) (move_by (cells_of structure.now) (transpose
-        (cells_of structure.now)) (bit o.imported) (bit o.exported)) longest area }
-{
-    if bits::is_set(o.defined, area) {
-        return Some(0);
-    }
-    let mut layer = o.defined;
-    let mut reached = o.defined;
-    for n in 0..LONGEST {
-        let near = next_alone(layer, structure, o.imported, o.exported);
-        let new = bits::difference(near, reached);
-        if bits::is_set(new, area) {
-            return Some(n + 1);
-        }
-        if bits::is_empty(new) {
-            return None;
-        }
-        let all = bits::union(reached, new);
-        reached = all;
-        layer = new;
-    }
-    None
+    let moves = Alone {
+        o: o,
+        structure: structure,
+    };
+    least_steps(&moves, o.defined, wanted).is_some()
 }
 
 // The answer for one area and object, in a state: the number of steps, or none for no access. A number past the areas
@@ -147,5 +155,13 @@ pub fn steps(s: &State, area: u8, object: u8) -> Option<u8>
     ensures meaning { Right (lending (site s.now) object) area result }
     ensures number { answer_number result ≡ least_count (lending (site s.now) object) area }
 {
-    least_steps(object_of(s, object), &s.structure, area)
+    if area >= State::AREAS {
+        return None;
+    }
+    let o = object_of(s, object);
+    let moves = Alone {
+        o: o,
+        structure: &s.structure,
+    };
+    least_steps(&moves, o.defined, bits::with_bit(0, area, true))
 }

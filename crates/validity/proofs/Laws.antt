@@ -4,19 +4,19 @@
 use Prim.Native.Nat.{ℕ, zero, suc, ◌<◌}
 use mathlib.Core.Path.{◌≡◌, refl, sym, ap, ap₂, subst, ◌∙◌}
 use mathlib.Core.Logic.{◌⊎◌, inl, inr}
-use mathlib.Core.Bool.{Bool, true, false, ◌&&◌, ◌||◌, not, cond}
-use lib.Dec.{T, eqb}
+use mathlib.Core.Bool.{Bool, true, false, ◌&&◌, ◌||◌, not}
+use lib.Dec.{T}
 use lib.ListN.{get_or}
 use Rattle.bits.specs.Bits.{bit, places, union, is_subset}
 use Rattle.bits.specs.Rows.{Rows, cells_of}
 use Rattle.bits.proofs.Laws.{union_bit, subset_decided}
-use Rattle.std.proofs.Common.{Option, Some, None, is_some}
-use Rattle.state.specs.Below.{each_below, some_below, first_below, found_below}
+use Rattle.std.proofs.Common.{Option, is_some}
+use Rattle.state.specs.Below.{each_below, some_below, found_below}
 use Rattle.state.specs.Cells.{Pairs, pair}
 use Rattle.state.specs.Site.{Site, imports, exports, import, export, Shaped}
 use Rattle.state.specs.Stands.{site}
 use Rattle.state.specs.declared.State.{State}
-use Rattle.state.proofs.Below.{each_at, each_by, some_at, some_by, first_or_none}
+use Rattle.state.proofs.Below.{each_at, each_by, some_at, some_by}
 use Rattle.state.proofs.Bools.{and_both, and_left, and_right, or_left, or_right, or_cases, same_test, implied, implies, fails, so_not, not_so, not_same, test}
 use Rattle.state.proofs.Laws.{pair_area, pair_first}
 use Rattle.relations.specs.Relations.{transpose}
@@ -26,6 +26,7 @@ use Rattle.access.specs.Answer.{access}
 use Rattle.search.specs.Rounds.{object_in, move_by, reachable}
 use Rattle.search.specs.declared.Object.{Object}
 use Rattle.search.proofs.Laws.{reachable_is_access}
+use Rattle.search.proofs.Layers.{found_some}
 use Rattle.soundness.specs.Tests.{is_valid}
 use Rattle.soundness.proofs.Laws.{valid_decided}
 use Rattle.validity.specs.Parts.{valid_for, lacking}
@@ -90,14 +91,6 @@ valid_lacking s o = each_not_some _ _ 32 (λ a. either (imports s o a || exports
     either true true = refl
     either true false = refl
     either false q = refl
-
--- a number is found where some number meets the test
-found_some : (f : ℕ → Bool) (n : ℕ) → is_some (found_below n f) ≡ some_below n f
-found_some f n = go (eqb (first_below n f) n) ∙ ap not (first_or_none f n) ∙ not_same (some_below n f)
-  where
-    go : (b : Bool) → is_some (cond b None (Some (first_below n f))) ≡ not b
-    go true = refl
-    go false = refl
 
 -- a state is valid where no object is found that lacks access
 pub valid_by_first : (s : Site) → Shaped s → (r : Option ℕ) (valid : Bool) → r ≡ found_below 64 (lacking s s.imports s.exports) → is_some r ≡ not valid

@@ -1,7 +1,7 @@
 -- `search::next_alone` meets its contract.
 -- Assumes nothing.
 use mathlib.Core.Path.{refl}
-use Rattle.search.proofs.Moves.{next_is}
+use Rattle.search.proofs.OneStep.{next_is}
 use Rattle.search.proofs.next_alone.Goals as goal
 
 pub returns : goal.returns

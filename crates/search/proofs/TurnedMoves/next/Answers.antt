@@ -1,7 +1,7 @@
--- `search::next` meets its contract.
+-- `search::Turned::next` meets its contract.
 -- Assumes nothing.
-use Rattle.search.proofs.Moves.{next_is}
-use Rattle.search.proofs.next.Goals as goal
+use Rattle.search.proofs.OneStep.{next_is}
+use Rattle.search.proofs.TurnedMoves.next.Goals as goal
 
 pub returns : goal.returns
 returns c =
