@@ -1,4 +1,5 @@
 -- The entries of a table of labels.
+--     each_same                    tests that agree below a bound
 --     is_in_range, ascends         what the tests of the table say of the first two bytes of its entries
 --     text_at_lem                  and of each byte of their texts and filler
 --     text_in_range, filler_zero   what a byte of a text is, and one of its filler
@@ -8,7 +9,7 @@
 --     text_there, text_none        the text of an area's label, and without one
 -- Assumes nothing.
 use Prim.Native.Nat.{ℕ, suc, ◌+◌, ◌-◌, ◌*◌, ◌≤◌, ◌<◌}
-use mathlib.Core.Path.{◌≡◌, refl, subst, ◌∙◌}
+use mathlib.Core.Path.{◌≡◌, refl, sym, subst, ◌∙◌}
 use mathlib.Core.Bool.{Bool, true, false, ◌&&◌, cond}
 use mathlib.Core.List.{List, []}
 use native.Mathlib.Numerals.{add-one}
@@ -19,13 +20,18 @@ use lib.ListN.{length, get_or, drop, length-take, length-drop}
 use lib.Seq.{get_or-take, get_or-drop}
 use Rattle.std.specs.Prelude.{Some, None}
 use Rattle.state.specs.Below.{each_below}
-use Rattle.state.proofs.Bools.{and_left, and_right}
-use Rattle.state.proofs.Below.{each_at}
+use Rattle.state.proofs.Bools.{and_left, and_right, same_test}
+use Rattle.state.proofs.Below.{each_at, each_by}
 use Rattle.state.proofs.Ascending.{Ascends, ascends_by}
 use Rattle.label_tables.specs.Labels.{label_size, text_size, label_count, label_area, label_length, text_byte, byte_fits}
 use Rattle.label_tables.specs.Labels.{label_fits, labels_fit, label_ascends, labels_ascend, label_index, label_found}
-use Rattle.label_tables.specs.Texts.{text_fits}
 use Rattle.label_tables.specs.Labels.{entry_text, label_of}
+
+-- ---- tests that agree below a bound
+pub each_same : (n : ℕ) (f g : ℕ → Bool) → ((k : ℕ) → k < n → f k ≡ g k) → each_below n f ≡ each_below n g
+each_same n f g same =
+    same_test (each_below n f) (each_below n g) (λ t. each_by g n (λ k h. subst T (same k h) (each_at f n t k h)))
+    (λ t. each_by f n (λ k h. subst T (sym (same k h)) (each_at g n t k h)))
 
 -- ---- what the tests of the table say
 pub is_in_range : (t : List ℕ) → T (labels_fit t) → (k : ℕ) → k < label_count t →
@@ -57,9 +63,9 @@ pub text_at_lem : (t : List ℕ) (k i : ℕ) → T (labels_fit t) → k < label_
     T (byte_fits (label_length t k) i (text_byte t k i))
 unfolding labels_fit
 text_at_lem t k i fit h b =
-    each_at (text_fits t (k * label_size + 2) (label_length t k)) text_size
-    (and_right (ltb (label_area t k) 32 && leb 1 (label_length t k) && leb (label_length t k) 30)
-    (each_below text_size (text_fits t (k * label_size + 2) (label_length t k)))
+    let byte = λ (j : ℕ). byte_fits (label_length t k) j (text_byte t k j) in
+    each_at byte text_size
+    (and_right (ltb (label_area t k) 32 && leb 1 (label_length t k) && leb (label_length t k) 30) (each_below text_size byte)
     (each_at (label_fits t) (label_count t) fit k h))
     i b
 

@@ -1,19 +1,20 @@
--- `label_tables::all_ascend` meets its contract. The loop's invariant: `ascends` says whether the first k areas are
--- each below the next.
+-- `label_tables::all_ascend` meets its contract: the first byte of each entry is its area.
 -- Assumes nothing.
-use mathlib.Core.Path.{refl, sym}
-use native.Mathlib.Omega.{arith}
-use Rattle.state.proofs.Below.{each_none, each_step, each_end}
-use Rattle.label_tables.specs.Labels.{labels_ascend}
+use Rattle.std.proofs.Common.{rules}
+use borrow.Author.Tests.{tests}
+use denote.Ref.{Bor}
+use mathlib.Core.List.{List}
+use Prim.Native.Nat.{ℕ}
+use lib.Dec.{ltb}
+use lib.ListN.{get_or}
+use Rattle.label_tables.proofs.Runs.{cut, entries_ascend}
 use Rattle.label_tables.proofs.all_ascend.Goals as goal
 
-pub loop-k-init : goal.loop-k-init
-loop-k-init c = (omega arith, sym (each_none _))
-
-pub loop-k-preserved : goal.loop-k-preserved
-loop-k-preserved c =
-    (omega arith, each_step _ _ _ _ c.loop-k.invariant.1 refl)
-
 pub returns : goal.returns
-unfolding labels_ascend
-returns c = each_end _ _ _ _ (omega arith) c.loop-k.invariant.1
+returns c =
+    let t = c.args.table.now in
+    let run = c.is_sorted_by.ensures.runs in
+    let pieces = c.chunks_exact.ensures in
+    let cuts = cut t run.0 run.1 pieces.rest pieces.size (pieces.runs run.0 run.0.seen) in
+    let areas = run.2.1 (λ (x y : Bor (List ℕ)). ltb (get_or x.now 0 0) (get_or y.now 0 0)) (λ x y r q k. search (rules, tests)) in
+    entries_ascend t run.0 cuts _ run.2.0 areas

@@ -1,26 +1,22 @@
--- `label_tables::all_listed` meets its contract. The loop's invariant: the areas of the first k entries are listed.
+-- `label_tables::all_listed` meets its contract: the first byte of each entry is its area.
 -- Assumes nothing.
-use mathlib.Core.Bool.{not}
+use Rattle.std.proofs.Common.{rules}
+use borrow.Author.Tests.{tests}
 use mathlib.Core.Path.{ap}
-use mathlib.Core.Path.{sym, ◌∙◌}
-use native.Mathlib.Omega.{arith}
-use borrow.Author.Tests.{not-true, not-false}
-use Rattle.state.proofs.Below.{each_none, each_goes, each_stop, each_done}
-use Rattle.label_tables.specs.Labels.{labels_listed}
+use lib.ListN.{get_or}
+use Rattle.bits.specs.Rows.{cells_of}
+use Rattle.state.specs.Cells.{member}
+use Rattle.label_tables.specs.Labels.{label_listed, labels_listed}
+use Rattle.label_tables.proofs.Runs.{cut, each_entry, entry_area}
 use Rattle.label_tables.proofs.all_listed.Goals as goal
-
-pub loop-k-init : goal.loop-k-init
-loop-k-init c = (omega arith, each_none _)
-
-pub returns-then-not-is_member : goal.returns-then-not-is_member
-unfolding labels_listed
-returns-then-not-is_member c =
-    each_stop _ _ c.loop-k.k (omega arith) (sym c.is_member.ensures ∙ not-true _ (ap not c.if-not-is_member.true))
-
-pub loop-k-preserved : goal.loop-k-preserved
-loop-k-preserved c =
-    (omega arith, each_goes _ _ c.loop-k.invariant.1 (sym c.is_member.ensures ∙ not-false _ (ap not c.if-not-is_member.false)))
 
 pub returns : goal.returns
 unfolding labels_listed
-returns c = each_done _ _ _ (omega arith) (omega arith) c.loop-k.invariant.1
+returns c =
+    let t = c.args.table.now in
+    let areas = cells_of c.args.areas.now in
+    let run = c.all.ensures.runs in
+    let pieces = c.chunks_exact.ensures in
+    let cuts = cut t run.0 run.1 pieces.rest pieces.size (pieces.runs run.0 run.0.seen) in
+    each_entry t run.0 cuts _ _ (λ e. member areas (get_or e 0 0)) (label_listed areas t) (λ x b q k. search (rules, tests))
+    (λ k e b. ap (member areas) (entry_area t e k b)) _ run.2
