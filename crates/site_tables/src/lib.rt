@@ -26,9 +26,9 @@ pub fn state_of(
     pair_tables::fill(&mut s.structure, structure);
     pair_tables::fill(&mut s.imports, imports);
     pair_tables::fill(&mut s.exports, exports);
-    s.users = listing::firsts_32(&s.owners);
+    s.users = listing::firsts(&s.owners);
     s.areas = listing::seconds(&s.owners);
-    s.objects = listing::firsts_64(&s.definitions);
+    s.objects = listing::firsts(&s.definitions);
     s
 }
 
