@@ -8,16 +8,14 @@ use mathlib.Core.Path.{◌≡◌, refl, sym, ap, subst, ◌∙◌}
 use mathlib.Core.List.{List, [], ◌∷◌, ◌++◌}
 use native.Mathlib.Omega.{arith}
 use lib.ListN.{length, get_or}
-use Rattle.state.specs.Site.{founding}
-use Rattle.state.specs.Site.{Site}
+use Rattle.std.proofs.Common.{Some, None}
+use Rattle.state.specs.Site.{founding, Site}
 use Rattle.soundness.specs.Sound.{Sound}
 use Rattle.soundness.proofs.Laws.{founding_sound}
-use Rattle.instructions.specs.Instructions.{four_bytes}
 use Rattle.machine.specs.Step.{step_of, run}
 use Rattle.machine.proofs.Laws.{two_digits, run_none, run_more}
 use Rattle.guarantees.proofs.Demand3.{demand_3}
-use Rattle.lines.specs.declared.Line.{Line}
-use Rattle.lines.specs.declared.Line.TheVariants.{Unreadable, Readable}
+use Rattle.lines.specs.Lines.{Line}
 use Rattle.sessions.specs.Session.{obeyed, results_from, state_after, instructions_of}
 
 pub after_append : (s : Site) (before after : List Line) → state_after s (before ++ after) ≡ state_after (state_after s before) after
@@ -28,9 +26,8 @@ after_append s (line ∷ before) after = after_append (obeyed s line).state befo
 pub after_run : (s : Site) (lines : List Line) → state_after s lines ≡ run s (instructions_of lines)
 unfolding state_after
 after_run s [] = sym (run_none s)
-after_run s (Unreadable ∷ lines) = after_run s lines
-after_run s (Readable c u a b ∷ lines) =
-    after_run (step_of s (four_bytes c u a b)).state lines ∙ sym (run_more s (four_bytes c u a b) (instructions_of lines))
+after_run s (None ∷ lines) = after_run s lines
+after_run s (Some bytes ∷ lines) = after_run (step_of s bytes).state lines ∙ sym (run_more s bytes (instructions_of lines))
 
 pub results_length : (s : Site) (lines : List Line) → length (results_from s lines) ≡ length lines
 unfolding results_from
@@ -38,8 +35,8 @@ results_length s [] = refl
 results_length s (line ∷ lines) = ap suc (results_length (obeyed s line).state lines)
 
 result_small : (s : Site) (line : Line) → (obeyed s line).refusal < 100
-result_small s Unreadable = omega arith
-result_small s (Readable c u a b) = two_digits s (four_bytes c u a b)
+result_small s None = omega arith
+result_small s (Some bytes) = two_digits s bytes
 
 pub results_small : (s : Site) (lines : List Line) (i : ℕ) → get_or (results_from s lines) i 0 < 100
 unfolding results_from

@@ -3,8 +3,7 @@ use Rattle.std.specs.Prelude.{ℕ, ◌≡◌, List, ◌++◌}
 use Rattle.state.specs.Site.{founding}
 use Rattle.machine.specs.Step.{run}
 use Rattle.guarantees.specs.Demand3.{Upheld}
-use Rattle.lines.specs.Lines.{lines_of}
-use Rattle.lines.specs.declared.Line.{Line}
+use Rattle.lines.specs.Lines.{Line, lines_of}
 use Rattle.sessions.specs.Session.{state_after, instructions_of, session_state}
 
 -- the state behind the state line is what the instructions of the readable lines give from F, in order

@@ -1,20 +1,16 @@
 -- What the lines of a session do (document 01, 'The program PanelRights'): "It begins in F. For each line it prints ..
 -- 0 or the refusal."
-use Rattle.std.specs.Prelude.{ℕ, List, [], ◌∷◌}
-use Rattle.state.specs.Site.{founding}
-use Rattle.state.specs.Site.{Site}
-use Rattle.instructions.specs.Instructions.{Bytes, four_bytes}
+use Rattle.std.specs.Prelude.{ℕ, Some, None, List, [], ◌∷◌}
+use Rattle.state.specs.Site.{founding, Site, Verdict, verdict}
+use Rattle.instructions.specs.declared.Bytes.{Bytes}
 use Rattle.machine.specs.Step.{step_of}
-use Rattle.state.specs.Site.{Verdict, verdict}
-use Rattle.lines.specs.Lines.{line_number, lines_of}
-use Rattle.lines.specs.declared.Line.{Line}
-use Rattle.lines.specs.declared.Line.TheVariants.{Unreadable, Readable}
+use Rattle.lines.specs.Lines.{Line, line_number, lines_of}
 
 -- 13, "unreadable line", "belongs to the program alone, before the others". "The state after a refusal is the state
 -- given." A readable line is a step.
 abbrev pub obeyed : Site → Line → Verdict
-obeyed s Unreadable = verdict (line_number Unreadable) s
-obeyed s (Readable c u a b) = step_of s (four_bytes c u a b)
+obeyed s None = verdict (line_number None) s
+obeyed s (Some bytes) = step_of s bytes
 
 -- the result of each line: 0 or its refusal
 unfoldable pub results_from : Site → List Line → List ℕ
@@ -29,8 +25,8 @@ state_after s (line ∷ rest) = state_after (obeyed s line).state rest
 -- the instructions of the readable lines
 abbrev pub instructions_of : List Line → List Bytes
 instructions_of [] = []
-instructions_of (Unreadable ∷ rest) = instructions_of rest
-instructions_of (Readable c u a b ∷ rest) = four_bytes c u a b ∷ instructions_of rest
+instructions_of (None ∷ rest) = instructions_of rest
+instructions_of (Some bytes ∷ rest) = bytes ∷ instructions_of rest
 
 -- the results of an input's lines, and the state after them: "It begins in F."
 unfoldable pub session_results : (input : List ℕ) → List ℕ

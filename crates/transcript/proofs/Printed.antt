@@ -3,11 +3,10 @@
 --     too_long_printed, told_printed                      the two transcripts that `write` writes
 --     printed_at_most                                     no transcript has more bytes
 -- Assumes nothing.
-use Prim.Native.Nat.{ℕ, ◌+◌, ◌-◌, ◌*◌, ◌≤◌, ◌<◌}
+use Prim.Native.Nat.{ℕ, ◌+◌, ◌*◌, ◌≤◌, ◌<◌}
 use mathlib.Core.Path.{◌≡◌, refl, ap, ◌∙◌}
 use mathlib.Core.Bool.{Bool, true, false, cond}
 use mathlib.Core.List.{List, ◌++◌}
-use native.Mathlib.Nat.{sub-zero}
 use native.Mathlib.Omega.{arith}
 use borrow.Author.Tests.{lt-ltb, le-ltb, ltb-false}
 use lib.ListN.{length, take, length-append}
@@ -36,9 +35,9 @@ too_long_printed input long = rw (lt-ltb most_read (length input) long) refl
 
 -- and any other its results and counts, as the code has them
 pub told_printed : (input results : List ℕ) (lines : ℕ) (s : Site) (numbers : List ℕ) → Told input results lines s → numbers ≡ counts s → length input ≤ most_read
-    → session_text (take (lines - 0) results) numbers ≡ transcript_of input
+    → session_text (take lines results) numbers ≡ transcript_of input
 told_printed input results lines s numbers told e fits =
-    rw (fitting input (le-ltb most_read (length input) fits), sub-zero lines, e, told.front, told.ending) refl
+    rw (fitting input (le-ltb most_read (length input) fits), e, told.front, told.ending) refl
 
 pub session_printed : Claims.SessionPrinted
 session_printed input fits =

@@ -7,102 +7,82 @@ use mathlib.Core.List.{List, [], ◌∷◌, ◌++◌, append-nil}
 use native.Mathlib.Numerals.{add-one}
 use native.Mathlib.Omega.{arith}
 use lib.ListN.{length, take, drop, set, length-set, length-drop}
-use lib.Seq.{take_all, drop-drop, drop-length, take-suc-set, append_snoc}
-use Rattle.state.specs.Site.{Site, founding, Verdict}
-use Rattle.lines.specs.Lines.{lines_of, first_line_of}
-use Rattle.lines.specs.Laws.{Sized}
+use lib.Seq.{take_all, take-suc-set, append_snoc}
+use lib.Dec.{eqb}
+use mathlib.Core.Bool.{Bool, true, false}
+use borrow.Author.Tests.{eqb-true}
+use Rattle.std.proofs.lemmas.Bool.{eqb-false}
+use Rattle.std.proofs.lemmas.List.{nil_from_length}
+use Rattle.state.specs.Site.{Site, founding, Verdict, verdict}
+use Rattle.lines.specs.Lines.{Line, lines_of, first_line_of}
 use Rattle.lines.specs.declared.First.{First}
-use Rattle.lines.specs.declared.Line.{Line}
 use Rattle.lines.proofs.Laws.{no_line, first_line, first_size}
 use Rattle.sessions.specs.Session.{obeyed, results_from, state_after, session_results, session_state}
 use Rattle.transcript.specs.Obeying.{Told}
 
--- ---- the loop: after so many lines, which end at `at`, the rest is still to be obeyed from state s; there are n places for results
-pub record Reached (n : ℕ) (input results : List ℕ) (lines at : ℕ) (s : Site) : Type 0 where
+-- ---- the loop: after so many lines, the rest of the input is still to be obeyed from state s; there are n places for
+-- results
+pub record Reached (n : ℕ) (input results : List ℕ) (lines : ℕ) (rest : List ℕ) (s : Site) : Type 0 where
   pub long : length results ≡ n
-  pub room : length input ≤ n
-  pub within : at ≤ length input
-  pub fewer : lines ≤ at
-  pub told : session_results input ≡ take lines results ++ results_from s (lines_of (drop at input))
-  pub after : session_state input ≡ state_after s (lines_of (drop at input))
+  pub room : lines + length rest ≤ n
+  pub told : session_results input ≡ take lines results ++ results_from s (lines_of rest)
+  pub after : session_state input ≡ state_after s (lines_of rest)
 
-pub reached_none : (input results : List ℕ) (s : Site) → s ≡ founding → length input ≤ length results → Reached (length results) input results 0 0 s
-unfolding session_results session_state
-reached_none input results s e room = rw e (record { long = refl; room = room; within = omega arith; fewer = omega arith; told = refl; after = refl })
-
--- a part of the input from a place on, as the loop takes it
-pub part_from : (xs : List ℕ) (i : ℕ) → take (length xs - i) (drop i xs) ≡ drop i xs
+-- what stands behind the first line, as the loop takes it
+part_from : (xs : List ℕ) (i : ℕ) → take (length xs - i) (drop i xs) ≡ drop i xs
 part_from xs i = take_all (length xs - i) (drop i xs) (let left : length (drop i xs) ≡ length xs - i = length-drop i xs in omega arith)
 
+pub part_shorter : (xs : List ℕ) (i : ℕ) → 0 < i → i ≤ length xs → length (take (length xs - i) (drop i xs)) < length xs
+part_shorter xs i some within = omega (arith, ap length (part_from xs i), length-drop i xs, some, within)
+
+-- whether the rest is empty
+pub filled : (xs : List ℕ) {b : Bool} → b ≡ eqb (length xs) 0 → b ≡ false → 0 < length xs
+filled xs e f = let other : (length xs ≡ 0 → ⊥) = eqb-false (length xs) 0 (sym e ∙ f) in omega arith
+
+pub emptied : (xs : List ℕ) {b : Bool} → b ≡ eqb (length xs) 0 → b ≡ true → xs ≡ []
+emptied xs e t = nil_from_length xs (eqb-true (length xs) 0 (sym e ∙ t))
+
+pub reached_none : (input results : List ℕ) (s : Site) → s ≡ founding → length input ≤ length results → Reached (length results) input results 0 input s
+unfolding session_results session_state
+reached_none input results s e room = rw e (record { long = refl; room = omega arith; told = refl; after = refl })
+
 -- one line more: the first of those that are left
-module _ (n : ℕ) (input results : List ℕ) (lines at : ℕ) (s : Site) (p : Reached n input results lines at s) (more : at < length input) where
-  some_left : 0 < length (drop at input)
-  some_left = let left : length (drop at input) ≡ length input - at = length-drop at input in omega arith
-
-  sized : Sized (drop at input)
-  sized = first_size (drop at input) some_left
-
-  size_some : 0 < (first_line_of (drop at input)).size
-  size_some = sized.some
-
-  size_within : at + (first_line_of (drop at input)).size ≤ length input
-  size_within =
-      let left : length (drop at input) ≡ length input - at = length-drop at input in
-      let most : (first_line_of (drop at input)).size ≤ length (drop at input) = sized.within in
-      omega arith
+module _ (n : ℕ) (input results : List ℕ) (lines : ℕ) (rest : List ℕ) (s : Site) (p : Reached n input results lines rest s) (more : 0 < length rest) where
+  -- a first line takes a byte, and no more than are left
+  pub first_takes : (f : First) → f ≡ first_line_of rest → (0 < f.size) × (f.size ≤ length rest)
+  first_takes f first = let sized = first_size rest more in rw first (sized.some, sized.within)
 
   pub line_room : lines < length results
-  line_room =
-      let long : length results ≡ n = p.long in
-      let few : lines ≤ at = p.fewer in
-      let room : length input ≤ n = p.room in
-      omega arith
-
-  left : lines_of (drop at input) ≡ (first_line_of (drop at input)).line ∷ lines_of (drop (at + (first_line_of (drop at input)).size) input)
-  left =
-      first_line (drop at input) some_left
-      ∙ ap (λ (r : List ℕ). (first_line_of (drop at input)).line ∷ lines_of r) (drop-drop (first_line_of (drop at input)).size at input)
+  line_room = omega (arith, p.long, p.room)
 
   front : (r : ℕ) → take (lines + 1) (set results lines r) ≡ take lines results ++ (r ∷ [])
   front r = rw (add-one lines) (take-suc-set results lines r line_room)
 
-  -- a first line f takes a byte, and no more than are left
-  pub first_takes : (f : First) → f ≡ first_line_of (drop at input) → (0 < f.size) × (at + f.size ≤ length input)
-  first_takes f first = rw first (size_some, size_within)
-
-  -- with what a turn has at hand: the first line f, its outcome o, the results and the state afterwards
-  pub reached_more : (f : First) (o : Verdict) (results' : List ℕ) (s' : Site) → f ≡ first_line_of (drop at input) → o ≡ obeyed s f.line
-      → results' ≡ set results lines o.refusal → s' ≡ o.state → Reached n input results' (lines + 1) (at + f.size) s'
+  -- with what a turn has at hand: the first line f, its result and the state afterwards
+  pub reached_more : (f : First) (result : ℕ) (s' : Site) → f ≡ first_line_of rest → verdict result s' ≡ obeyed s f.line
+      → Reached n input (set results lines result) (lines + 1) (take (length rest - f.size) (drop f.size rest)) s'
   unfolding results_from state_after
-  reached_more f o results' s' first done stored next =
-      let within : at + (first_line_of (drop at input)).size ≤ length input = size_within in
-      let some : 0 < (first_line_of (drop at input)).size = size_some in
-      let few : lines ≤ at = p.fewer in
-      rw (stored, next, first)
+  reached_more f result s' first done =
+      let left : lines_of rest ≡ f.line ∷ lines_of (drop f.size rest) = rw first (first_line rest more) in
+      let takes = first_takes f first in
+      rw (part_from rest f.size)
       (record {
-        long = length-set results lines o.refusal ∙ p.long;
-        room = p.room;
-        within = within;
-        fewer = omega arith;
+        long = length-set results lines result ∙ p.long;
+        room = omega (arith, p.room, takes.0, takes.1, length-drop f.size rest);
         told =
             p.told ∙ ap (λ (l : List Line). take lines results ++ results_from s l) left
-            ∙ rw (front o.refusal, done, first) (sym (append_snoc (take lines results) _ _));
-        after = p.after ∙ ap (state_after s) left ∙ rw (done, first) refl;
+            ∙ rw (front result, ← done) (sym (append_snoc (take lines results) _ _));
+        after = p.after ∙ ap (state_after s) left ∙ ap (λ (v : Verdict). state_after v.state (lines_of (drop f.size rest))) (sym done);
       })
 
 -- no line is left
-pub reached_all : (n : ℕ) (input results : List ℕ) (lines at : ℕ) (s : Site)
-    → Reached n input results lines at s → length input ≤ at → Told input results lines s
+pub reached_all : (n : ℕ) (input results : List ℕ) (lines : ℕ) (rest : List ℕ) (s : Site)
+    → Reached n input results lines rest s → rest ≡ [] → Told input results lines s
 unfolding results_from state_after
-reached_all n input results lines at s p last =
-    let long : length results ≡ n = p.long in
-    let room : length input ≤ n = p.room in
-    let within : at ≤ length input = p.within in
-    let few : lines ≤ at = p.fewer in
-    let end : at ≡ length input = omega arith in
-    let none : lines_of (drop at input) ≡ [] = ap (λ (k : ℕ). lines_of (drop k input)) end ∙ ap lines_of (drop-length input) ∙ no_line in
+reached_all n input results lines rest s p last =
+    let none : lines_of rest ≡ [] = ap lines_of last ∙ no_line in
     record {
-      within = omega arith;
+      within = omega (arith, p.long, p.room);
       front = sym (p.told ∙ ap (λ (l : List Line). take lines results ++ results_from s l) none ∙ append-nil (take lines results));
       ending = sym (p.after ∙ ap (state_after s) none);
     }

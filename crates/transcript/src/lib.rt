@@ -2,15 +2,18 @@
 #![tactic(auto)]
 
 ghost use Rattle.std.specs.Prelude.{◌≡◌, ◌≤◌, length};
-ghost use Rattle.output.specs.Buffer.{laid, place_behind, written_of, buffer_of};
+ghost use Rattle.output.specs.Buffer.{laid, place_behind, as_written, written_of, buffer_of};
+ghost use Rattle.state.specs.Site.{verdict};
 ghost use Rattle.state.specs.Stands.{site};
+ghost use Rattle.sessions.specs.Session.{obeyed};
 ghost use Rattle.transcript.specs.Transcript.{result_line, result_lines, spaced, state_line, session_text};
 ghost use Rattle.transcript.specs.Transcript.{transcript_of, most_printed};
 ghost use Rattle.transcript.specs.Obeying.{Told};
 
-use lines::Line;
-use output::Written;
+use instructions::Bytes;
+use lines::First;
 use state::State;
+use verdicts::Refusal;
 
 // An input of more bytes is too long.
 pub const MOST_READ: usize = 65536;
@@ -26,13 +29,13 @@ struct Ending {
 }
 
 // The result of line k.
-fn put_line(out: &mut [u8], at: usize, k: usize, refusal: u8) -> usize
-    ensures place { result ≡ place_behind at (result_line k refusal) }
-    ensures buffer { out.new ≡ laid (result_line k refusal) at out.old }
+fn put_line(out: &mut [u8], at: usize, k: usize, answer: u8) -> usize
+    ensures place { result ≡ place_behind at (result_line k answer) }
+    ensures buffer { out.new ≡ laid (result_line k answer) at out.old }
 {
     let behind_k = output::put_decimal(out, at, k);
-    let behind_result = output::put_spaced(out, behind_k, refusal as usize);
-    output::put(out, behind_result, 10)
+    let behind_result = output::put_spaced(out, behind_k, answer as usize);
+    output::put(out, behind_result, b'\n')
 }
 
 // The results of a session's lines.
@@ -41,8 +44,8 @@ fn put_lines(out: &mut [u8], at: usize, results: &[u8]) -> usize
     ensures buffer { out.new ≡ laid (result_lines 1 results.now) at out.old }
 {
     let mut end = at;
-    for i in 0..results.len() {
-        end = put_line(out, end, i + 1, results[i]);
+    for (i, result) in results.iter().enumerate() {
+        end = put_line(out, end, i + 1, *result);
     }
     end
 }
@@ -53,8 +56,8 @@ fn put_counts(out: &mut [u8], at: usize, counts: &[usize]) -> usize
     ensures buffer { out.new ≡ laid (spaced counts.now) at out.old }
 {
     let mut end = at;
-    for i in 0..counts.len() {
-        end = output::put_spaced(out, end, counts[i]);
+    for count in counts {
+        end = output::put_spaced(out, end, *count);
     }
     end
 }
@@ -66,7 +69,7 @@ fn put_state(out: &mut [u8], at: usize, counts: &[usize]) -> usize
 {
     let behind_word = output::put_text(out, at, b"state");
     let behind_counts = put_counts(out, behind_word, counts);
-    output::put(out, behind_counts, 10)
+    output::put(out, behind_counts, b'\n')
 }
 
 // A session's results and counts.
@@ -78,63 +81,54 @@ fn put_session(out: &mut [u8], results: &[u8], counts: &[usize]) -> usize
     put_state(out, behind_lines, counts)
 }
 
+// Obeys a line, and answers its result: 0, or the number of the refusal.
+fn obey_line(s: &mut State, line: Option<Bytes>) -> u8
+    ensures { verdict result (site s.new) ≡ obeyed (site s.old) line }
+{
+    let Some(bytes) = line else {
+        return Refusal::UnreadableLine.number();
+    };
+    match machine::step(s, bytes) {
+        Ok(()) => 0,
+        Err(refusal) => refusal.number(),
+    }
+}
+
 // Obeys the lines of the input, from the founding state on, and writes the result of each.
 fn obey_lines(input: &[u8], results: &mut [u8]) -> Ending
     requires { length input.now ≤ length results.old }
     ensures { Told input.now results.new result.lines (site result.state) }
 {
     let mut s = State::founding();
-    let mut lines: usize = 0;
-    let mut at: usize = 0;
-    while at < input.len() {
-        let first = lines::first_line(&input[at..]);
-        let line = first.line;
-        let size = first.size;
-        match line {
-            Line::Unreadable => {
-                results[lines] = 13;
-            }
-            Line::Readable(code, activator, a, b) => {
-                let outcome = machine::step(s, code, activator, a, b);
-                results[lines] = outcome.refusal;
-                let next = outcome.state;
-                s = next;
-            }
-        }
-        lines = lines + 1;
-        at = at + size;
+    let mut lines = 0;
+    let mut rest = input;
+    while !rest.is_empty() {
+        let First { line, size } = lines::first_line(rest);
+        results[lines] = obey_line(&mut s, line);
+        lines += 1;
+        rest = &rest[size..];
     }
-    Ending {
-        lines: lines,
-        state: s,
-    }
+    Ending { lines, state: s }
 }
 
 // Writes a session's results and counts, or nothing where the buffer is too short: they are counted first.
-fn write_session(results: &[u8], counts: &[usize], output: &mut [u8]) -> Written
+fn write_session(results: &[u8], counts: &[usize], output: &mut [u8]) -> Result<usize, Refusal>
     requires { length (session_text results.now counts.now) ≤ most_printed }
-    ensures written { result ≡ written_of (session_text results.now counts.now) output.old }
-    ensures buffer { output.new ≡ buffer_of (session_text results.now counts.now)
-        output.old }
+    ensures written { as_written result ≡ written_of (session_text results.now counts.now) output.old }
+    ensures buffer { output.new ≡ buffer_of (session_text results.now counts.now) output.old }
 {
-    let mut none = [0u8; 0];
-    let length = put_session(&mut none, results, counts);
+    let length = put_session(&mut [], results, counts);
     if output.len() < length {
-        return Written {
-            refusal: 31,
-            length: 0,
-        };
+        return Err(Refusal::BufferLength);
     }
     put_session(output, results, counts);
-    Written {
-        refusal: 0,
-        length: length,
-    }
+    Ok(length)
 }
 
-// Writes what PanelRights prints for the input, or nothing where the buffer is too short.
-pub fn write(input: &[u8], output: &mut [u8]) -> Written
-    ensures written { result ≡ written_of (transcript_of input.now) output.old }
+// Writes what PanelRights prints for the input, and answers how many bytes that is; or nothing where the buffer is too
+// short.
+pub fn write(input: &[u8], output: &mut [u8]) -> Result<usize, Refusal>
+    ensures written { as_written result ≡ written_of (transcript_of input.now) output.old }
     ensures buffer { output.new ≡ buffer_of (transcript_of input.now) output.old }
 {
     if MOST_READ < input.len() {
@@ -142,10 +136,8 @@ pub fn write(input: &[u8], output: &mut [u8]) -> Written
     }
     let mut results = [0u8; MOST_READ];
     let ending = obey_lines(input, &mut results);
-    let lines = ending.lines;
-    let last = ending.state;
-    let counts = counts::counts(last);
-    write_session(&results[0..lines], &counts, output)
+    let counts = counts::counts(&ending.state);
+    write_session(&results[..ending.lines], &counts, output)
 }
 
 // The same into a buffer that no transcript is too long for; the answer is how many bytes were written. `within` is
@@ -155,6 +147,5 @@ pub fn print(input: &[u8], output: &mut [u8; MOST_PRINTED]) -> usize
     ensures within { result ≤ length output.new }
     ensures buffer { output.new ≡ buffer_of (transcript_of input.now) output.old }
 {
-    let written = write(input, output);
-    written.length
+    write(input, output).unwrap_or(0)
 }

@@ -19,15 +19,15 @@ turns : (counts : List ℕ) → Turns (length counts) (count counts) (rest count
 unfolding count spaced
 turns counts = record { more = λ i h. rw (add-one i) (ap spaced (drop-cons counts i 0 h)); none = ap spaced (drop-length counts) }
 
-pub loop-i-init : goal.loop-i-init
-loop-i-init c = turns_none _ _ _ _ c.ranges.at.fits c.well_formed.0.0
+pub loop-count-init : goal.loop-count-init
+loop-count-init c = turns_none _ _ _ _ c.ranges.at.fits c.well_formed.0.0
 
-pub loop-i-preserved : goal.loop-i-preserved
+pub loop-count-preserved : goal.loop-count-preserved
 unfolding count
-loop-i-preserved c =
-    turns_more _ _ _ (turns _) _ _ _ _ _ c.loop-i.invariant c.loop-i-test.true _ _ (c.put_spaced-end.ensures.place, c.put_spaced-end.ensures.buffer)
+loop-count-preserved c =
+    turns_more _ _ _ (turns _) _ _ _ _ _ c.loop-count.invariant c.loop-count-test.true _ _ (c.put_spaced-end.ensures.place, c.put_spaced-end.ensures.buffer)
 
 pub returns : goal.returns
 returns c =
-    let p = turns_all _ _ _ (turns _) _ _ _ _ _ c.loop-i.invariant c.loop-i-test.false in
+    let p = turns_all _ _ _ (turns _) _ _ _ _ _ c.loop-count.invariant c.loop-count-test.false in
     record { place = p.0; buffer = p.1 }

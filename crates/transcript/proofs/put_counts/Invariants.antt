@@ -1,6 +1,6 @@
 -- `transcript::put_counts` meets its contract. Turn i of the loop lays count i.
 -- Assumes nothing.
-use Prim.Native.Nat.{ℕ, ◌-◌}
+use Prim.Native.Nat.{ℕ}
 use mathlib.Core.List.{List}
 use lib.ListN.{length, drop}
 use Rattle.transcript.specs.Transcript.{spaced}
@@ -10,8 +10,5 @@ use Rattle.transcript.proofs.put_counts.Given as goal
 abbrev pub rest : List ℕ → ℕ → List ℕ
 rest counts i = spaced (drop i counts)
 
-abbrev pub invariant-loop-i : goal.invariant-loop-i
-invariant-loop-i l = LaidTo (length l.counts) (rest l.counts) l.i l.at l.initial.out l.end l.out
-
-abbrev pub decreases-loop-i : goal.decreases-loop-i
-decreases-loop-i l = l.i-end - l.i
+abbrev pub invariant-loop-count : goal.invariant-loop-count
+invariant-loop-count l = LaidTo (length l.counts) (rest l.counts) l.count-index l.at l.initial.out l.end l.out
