@@ -8,6 +8,7 @@ use mathlib.Core.List.{List}
 use native.Mathlib.Omega.{arith}
 use native.Mathlib.Decide.{ℕ_discrete}
 use borrow.Author.Tests.{lt-ltb, le-ltb, ne_eqb}
+use Rattle.std.specs.Prelude.{Option, Some, None}
 use lib.Dec.{T, eqb, ltb, ltb→lt, eqb→eq}
 use lib.ListN.{length}
 use Rattle.state.specs.Checks.{first_met, among}
@@ -16,9 +17,7 @@ use Rattle.state.proofs.Bools.{and_both, or_left, or_cases, holds}
 use Rattle.state.proofs.Checks.{met, passed, first_meets, among_meets}
 use Rattle.state.proofs.Laws.{related_inside}
 use Rattle.access.specs.Lending.{lending}
-use Rattle.access.specs.Answer.{answer, answer_number}
-use Rattle.access.specs.declared.Answer.{Answer}
-use Rattle.access.specs.declared.Answer.TheVariants.{Steps, NoAccess}
+use Rattle.access.specs.Answer.{Answer, answer, answer_number}
 use Rattle.access.proofs.Laws.{never_above, counts_length}
 use Rattle.chains.proofs.Laws.{first_length}
 use Rattle.records.specs.Record.{state_of}
@@ -28,14 +27,12 @@ use Rattle.instructions.specs.Decode.{decode_of}
 use Rattle.successors.specs.Successor.{successor_of}
 use Rattle.machine.specs.Step.{question_refusals, question_numbers, refused_or, step_refusal, step_of}
 use Rattle.machine.proofs.Laws.{reply_by_first, number_is_refusal, two_digits, unsound_refused}
-use Rattle.reasons.specs.Explanation.{explain_refusals, explain_numbers, explain_refusal, explanation_of, explained_buffer}
+use Rattle.reasons.specs.Explanation.{explain_refusals, explain_numbers, explain_refusal, ByChain, ByCounts, explanation_of, explained_buffer}
 use Rattle.reasons.specs.declared.Lost.{Lost}
-use Rattle.reasons.specs.declared.Lost.TheVariants.{NoneLost, LostImport, LostExport}
-use Rattle.reasons.specs.declared.StepReason.{StepReason}
-use Rattle.reasons.specs.declared.Explanation.TheVariants.{ByChain, ByCounts}
-use Rattle.reasons.specs.Lost.{reason_for, lost_kind, lost_object, lost_area, step_reason_of}
+use Rattle.reasons.specs.declared.Lost.TheVariants.{Import as LostImport, Export as LostExport}
+use Rattle.reasons.specs.Lost.{reason_for, lost_kind, lost_object, lost_area, StepReason, step_reason_of}
 use Rattle.reasons.specs.Claims.{ChainThere, CountsThere, LostPair, NamedIn}
-use Rattle.reasons.proofs.Explained.{Explained, refused, by_chain, by_counts, explained}
+use Rattle.reasons.proofs.Cases.{Explained, refused, by_chain, by_counts, explained}
 use Rattle.reasons.proofs.Laws.{refused_so, reason_so, chain_is_true, counts_are_true, short_buffer_is_31, own_number, named_is_first}
 use Rattle.reasons.proofs.Losing.{given_shaped}
 use Rattle.interface.specs.Interface.{step_number, answer_of, access_number, explanation_code, explain_answer, explain_buffer, lost_code, lost_of_parts, reason_code}
@@ -67,8 +64,8 @@ module _ (s : Site) (a b : ℕ) (into : List ℕ) where
 pub data Answered (s : Site) (a b : ℕ) (into : List ℕ) : Type 0 where
   as_refusal : (n : ℕ) → T (among n explain_numbers) → explain_refusal s a b into ≡ n → explanation_code (explanation_of s a b into) ≡ 256 + n
       → explained_buffer s a b into ≡ into → Answered s a b into
-  as_chain : (k : ℕ) → k ≤ 8 → explain_refusal s a b into ≡ 0 → answer (lending s b) a ≡ Steps k → explanation_of s a b into ≡ ByChain (suc k) → Answered s a b into
-  as_counts : explain_refusal s a b into ≡ 0 → answer (lending s b) a ≡ NoAccess → explanation_of s a b into ≡ ByCounts 32 → Answered s a b into
+  as_chain : (k : ℕ) → k ≤ 8 → explain_refusal s a b into ≡ 0 → answer (lending s b) a ≡ Some k → explanation_of s a b into ≡ ByChain (suc k) → Answered s a b into
+  as_counts : explain_refusal s a b into ≡ 0 → answer (lending s b) a ≡ None → explanation_of s a b into ≡ ByCounts 32 → Answered s a b into
 
 pub answered : (s : Site) (a b : ℕ) (into : List ℕ) → Answered s a b into
 answered s a b into = go (explained s a b into)
@@ -146,8 +143,8 @@ beside buffer a b into room = go (answered (state_of buffer) a b into)
       where
         some : (n : ℕ) → T (among n explain_numbers) → n ≡ 0 → ⊥
         some n t q = rw q at t
-    go (as_chain k h z x e) = both_steps k h (asked_answered buffer a b into room z (Steps k) x) (ap explanation_code e)
-    go (as_counts z x e) = both_none (asked_answered buffer a b into room z NoAccess x) (ap explanation_code e)
+    go (as_chain k h z x e) = both_steps k h (asked_answered buffer a b into room z (Some k) x) (ap explanation_code e)
+    go (as_counts z x e) = both_none (asked_answered buffer a b into room z None x) (ap explanation_code e)
 
 pub chain_where_steps : ExplainClaims.ChainWhereSteps
 chain_where_steps buffer a b into room n short = go (beside buffer a b into room)
@@ -209,18 +206,18 @@ module _ (t : Site) (shaped : Shaped t) where
       let first : o < limit object = rw kind at inside.0 in
       (omega arith, omega (arith, inside.1))
 
-  lost_small : (x : Lost) → NamedIn t x → (lost_kind x < 256) × ((lost_object x < 256) × (lost_area x < 256))
-  lost_small NoneLost n = absurd n
-  lost_small (LostImport e) n = (omega arith, entry_small import refl e.object e.area n.lost)
-  lost_small (LostExport e) n = (omega arith, entry_small export refl e.object e.area n.0.lost)
+  lost_small : (x : Option Lost) → NamedIn t x → (lost_kind x < 256) × ((lost_object x < 256) × (lost_area x < 256))
+  lost_small None n = absurd n
+  lost_small (Some (LostImport e)) n = (omega arith, entry_small import refl e.object e.area n.lost)
+  lost_small (Some (LostExport e)) n = (omega arith, entry_small export refl e.object e.area n.0.lost)
 
-lost_again : (x : Lost) → lost_of_parts (lost_kind x) (lost_object x) (lost_area x) ≡ x
-lost_again NoneLost = refl
-lost_again (LostImport e) = refl
-lost_again (LostExport e) = refl
+lost_again : (x : Option Lost) → lost_of_parts (lost_kind x) (lost_object x) (lost_area x) ≡ x
+lost_again None = refl
+lost_again (Some (LostImport e)) = refl
+lost_again (Some (LostExport e)) = refl
 
 -- no pair beside another number than 11
-no_pair : (s : Site) (x : Bytes) → ((step_of s x).refusal ≡ 11 → ⊥) → (step_reason_of s x).lost ≡ NoneLost
+no_pair : (s : Site) (x : Bytes) → ((step_of s x).refusal ≡ 11 → ⊥) → (step_reason_of s x).lost ≡ None
 no_pair s x f = rw (reason_so s x, ne_eqb (step_refusal s x) 11 (λ e. f (number_is_refusal s x ∙ e))) refl
 
 pub explain_step_parts : ExplainClaims.ExplainStepParts
@@ -255,7 +252,7 @@ explain_step_parts buffer x = go (ℕ_discrete (step_of s x).refusal 11)
           pair = λ q. rw (kind, first, second, lost_again r.lost) named;
         }
     go (no f) =
-        let none : r.lost ≡ NoneLost = no_pair s x f in
+        let none : r.lost ≡ None = no_pair s x f in
         let code : lost_code r.lost ≡ 0 = ap lost_code none in
         let low : reason_code r % 256 ≡ r.refusal = omega (arith, few) in
         record {

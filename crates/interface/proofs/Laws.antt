@@ -6,6 +6,7 @@ use mathlib.Core.Logic.{◌⊎◌, inl, inr, ⊎_elim}
 use mathlib.Core.Bool.{Bool, true, false, ◌&&◌, ◌||◌, not, cond}
 use mathlib.Core.List.{List, [], ◌∷◌, ◌++◌, map}
 use native.Mathlib.Omega.{arith}
+use Rattle.std.specs.Prelude.{Some, None}
 use lib.Dec.{T, eqb, ltb, eqb→eq}
 use lib.ListN.{length, take, drop}
 use lib.Seq.{take-append_seam, drop-append_seam}
@@ -17,18 +18,15 @@ use Rattle.state.proofs.Bools.{or_right, or_cases, is_true, test}
 use Rattle.state.proofs.Checks.{first_meets, among_meets}
 use Rattle.state.proofs.Laws.{founding_shaped}
 use Rattle.access.specs.Lending.{Lending, lending}
-use Rattle.access.specs.Answer.{answer, answer_number, longest}
-use Rattle.access.specs.declared.Answer.{Answer}
-use Rattle.access.specs.declared.Answer.TheVariants.{Steps, NoAccess}
+use Rattle.access.specs.Answer.{Answer, answer, answer_number, longest}
 use Rattle.access.proofs.Laws.{answer_is_right}
 use Rattle.access.specs.Claims.{Right}
 use Rattle.records.specs.Record.{record_size, bytes_of, is_record, state_of, is_sized}
 use Rattle.records.proofs.Laws.{state_shaped, state_of_bytes, bytes_of_state, stored_sized, stored_other}
-use Rattle.machine.specs.Step.{step_of, run, question_refusals, reply_of, question_numbers}
+use Rattle.machine.specs.Step.{step_of, run, question_refusals, Refused, Answered, reply_of, question_numbers}
 use Rattle.instructions.specs.Instructions.{Bytes}
 use Rattle.guarantees.specs.Demand3.{Upheld}
 use Rattle.guarantees.specs.TakingBack.{matching_remove, TakenBack}
-use Rattle.machine.specs.declared.Reply.TheVariants.{Refused, Answered}
 use Rattle.machine.proofs.Laws.{run_none, run_more, reply_by_first}
 use Rattle.machine.proofs.Laws as machine
 use Rattle.guarantees.proofs.Demand3.{demand_3}
@@ -202,10 +200,10 @@ file_numbers file buffer = go (is_sized buffer)
 
 -- an answer is a number of steps within the limit, or 255
 answer_small : (l : Lending) (a : ℕ) (x : Answer) → answer l a ≡ x → T (is_access_number (answer_number x))
-answer_small l a (Steps n) e =
+answer_small l a (Some n) e =
     or_right (eqb n 255 || among n (map (λ k. 256 + k) question_numbers)) (not (ltb longest n))
     (rw (le-ltb longest n (subst (Right l a) e (answer_is_right l a)).short) tt)
-answer_small l a NoAccess e = tt
+answer_small l a None e = tt
 
 -- each number of the question's table, with 256
 refusal_known : ℕ → Bool

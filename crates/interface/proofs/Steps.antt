@@ -30,8 +30,7 @@ use Rattle.soundness.proofs.Laws.{sound_decided, empty_unsound}
 use Rattle.records.specs.Record.{bytes_of, is_record, state_of}
 use Rattle.records.proofs.Laws.{state_shaped, bytes_are_record, bytes_length, record_length, state_of_bytes, bytes_of_state, no_record_empty}
 use Rattle.instructions.specs.Instructions.{Bytes}
-use Rattle.machine.specs.Step.{step_of, reply_of}
-use Rattle.machine.specs.declared.Reply.TheVariants.{Refused}
+use Rattle.machine.specs.Step.{step_of, Refused, reply_of}
 use Rattle.machine.proofs.Laws.{unsound_refused, unsound_unanswered, refused_unchanged}
 use Rattle.guarantees.proofs.Demand3.{step_sound}
 use Rattle.recipes.specs.Run.{recipe_of}

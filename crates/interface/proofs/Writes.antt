@@ -24,7 +24,7 @@ use Rattle.records.proofs.Laws.{state_shaped}
 use Rattle.site_encoding.specs.Encode.{encode}
 use Rattle.site_encoding.specs.Claims.{most_bytes}
 use Rattle.site_encoding.proofs.Laws.{encode_most}
-use Rattle.output.specs.declared.Written.{Written}
+use Rattle.output.specs.Buffer.{Written}
 use Rattle.site_encoding.specs.WriterClaims.{Writable}
 use Rattle.site_encoding.specs.Writer.{write_refusal, write_of, buffer_after}
 use Rattle.site_encoding.proofs.WriterLaws.{written_exactly, refused_exactly, writes_encoding, refused_unwritten}

@@ -17,28 +17,23 @@
 --     lowest                           panelrights_lowest_mark (marks, Marks)
 --     run_buffer                       one call of panelrights_step after the other
 --     commands_buffer                  one call of panelrights_step or panelrights_recipe after the other
-use Rattle.std.specs.Prelude.{ℕ, ◌+◌, ◌*◌, cond, List, [], ◌∷◌, eqb}
+use Rattle.std.specs.Prelude.{ℕ, ◌+◌, ◌*◌, cond, Option, Some, None, List, [], ◌∷◌, eqb}
 use Rattle.state.specs.Site.{Site, founding}
 use Rattle.access.specs.Answer.{answer_number}
 use Rattle.records.specs.Record.{bytes_of, is_record, state_of, is_sized, stored}
 use Rattle.instructions.specs.Instructions.{Bytes}
-use Rattle.machine.specs.Step.{step_of, reply_of}
-use Rattle.machine.specs.declared.Reply.{Reply}
-use Rattle.machine.specs.declared.Reply.TheVariants.{Refused, Answered}
-use Rattle.reasons.specs.Explanation.{explanation_of, explained_buffer}
-use Rattle.reasons.specs.Lost.{lost_kind, lost_object, lost_area, step_reason_of}
-use Rattle.reasons.specs.declared.Explanation.{Explanation}
-use Rattle.reasons.specs.declared.Explanation.TheVariants.{Unexplained, ByChain, ByCounts}
+use Rattle.machine.specs.Step.{step_of, Reply, Refused, Answered, reply_of}
+use Rattle.reasons.specs.Explanation.{Explanation, Unexplained, ByChain, ByCounts, explanation_of, explained_buffer}
+use Rattle.reasons.specs.Lost.{lost_kind, lost_object, lost_area, StepReason, step_reason_of}
 use Rattle.reasons.specs.declared.Lost.{Lost}
-use Rattle.reasons.specs.declared.Lost.TheVariants.{NoneLost, LostImport, LostExport}
-use Rattle.reasons.specs.declared.StepReason.{StepReason}
+use Rattle.reasons.specs.declared.Lost.TheVariants.{Import as LostImport, Export as LostExport}
 use Rattle.recipes.specs.Run.{RecipeVerdict, recipe_of}
 use Rattle.recipes.specs.declared.Call.{Call}
 use Rattle.recipe_guarantees.specs.Commands.{Command, single, recipe}
 use Rattle.site_file.specs.Reading.{read_of}
 use Rattle.label_finder.specs.Finder.{place_of, block_place}
 use Rattle.label_finder.specs.declared.Place.{Place}
-use Rattle.output.specs.declared.Written.{Written}
+use Rattle.output.specs.Buffer.{Written}
 use Rattle.site_encoding.specs.Writer.{write_of, buffer_after}
 
 -- ---- panelrights_founding
@@ -107,7 +102,7 @@ explain_buffer buffer a b into = explained_buffer (state_of buffer) a b into
 
 -- ---- panelrights_explain_step
 -- "256 * lost + 65536 * object + 16777216 * area"
-abbrev pub lost_code : Lost → ℕ
+abbrev pub lost_code : Option Lost → ℕ
 lost_code x = 256 * lost_kind x + 65536 * lost_object x + 16777216 * lost_area x
 
 -- "number + 256 * lost + 65536 * object + 16777216 * area"
@@ -118,10 +113,10 @@ abbrev pub explain_step_answer : (buffer : List ℕ) → Bytes → ℕ
 explain_step_answer buffer x = reason_code (step_reason_of (state_of buffer) x)
 
 -- the pair that three numbers stand for
-abbrev pub lost_of_parts : (kind o a : ℕ) → Lost
+abbrev pub lost_of_parts : (kind o a : ℕ) → Option Lost
 lost_of_parts kind o a =
-    cond (eqb kind 1) (LostImport (record { object = o; area = a }))
-    (cond (eqb kind 2) (LostExport (record { object = o; area = a })) NoneLost)
+    cond (eqb kind 1) (Some (LostImport (record { object = o; area = a })))
+    (cond (eqb kind 2) (Some (LostExport (record { object = o; area = a }))) None)
 
 -- ---- panelrights_read_file
 -- "31 and no byte written, whatever the file has, if state_len is not panelrights_state_bytes()", else the file's
