@@ -8,6 +8,7 @@ use native.Mathlib.Decide.{dec_lt, ℕ_discrete}
 use borrow.Author.Tests.{ne_eqb}
 use lib.ListN.{length, get_or, set, length-set}
 use lib.Seq.{get_or-set_same, get_or-set_other, set_out, ext_get_or}
+use Rattle.std.proofs.lemmas.List.{set-set}
 use Rattle.bits.specs.Bits.{bit, places, with_bit}
 use Rattle.bits.specs.Rows.{Rows, cells_of}
 use Rattle.bits.proofs.Laws.{with_bit_bit}
@@ -15,26 +16,6 @@ use Rattle.bits.proofs.Cells.{cell_of, cells_length}
 use Rattle.state.specs.Cells.{put}
 use Rattle.state.proofs.Laws.{put_beyond}
 use Rattle.relations.proofs.Laws.{paired}
-
--- a row stored as it is changes nothing
-pub set_as_is : (rows : Rows) (i : ℕ) → set rows i (get_or rows i 0) ≡ rows
-set_as_is rows i = ext_get_or 0 (set rows i (get_or rows i 0)) rows (length-set rows i _) (λ k h. at k (ℕ_discrete k i) (rw (length-set rows i (get_or rows i 0)) at h))
-  where
-    at : (k : ℕ) → Dec (k ≡ i) → k < length rows → get_or (set rows i (get_or rows i 0)) k 0 ≡ get_or rows k 0
-    at k (yes e) h = rw e (get_or-set_same rows i (get_or rows i 0) 0 (omega arith))
-    at k (no e) h = get_or-set_other rows i k (get_or rows i 0) 0 e
-
--- of two stores to one row the second counts
-set_twice : (rows : Rows) (i a b : ℕ) → set (set rows i a) i b ≡ set rows i b
-set_twice rows i a b =
-    ext_get_or 0 (set (set rows i a) i b) (set rows i b) (length-set (set rows i a) i b ∙ length-set rows i a ∙ sym (length-set rows i b))
-    (λ k h. at k (ℕ_discrete k i) (rw (length-set (set rows i a) i b ∙ length-set rows i a) at h))
-  where
-    at : (k : ℕ) → Dec (k ≡ i) → k < length rows → get_or (set (set rows i a) i b) k 0 ≡ get_or (set rows i b) k 0
-    at k (yes e) h =
-        let inside : i < length rows = omega arith in
-        rw e (get_or-set_same (set rows i a) i b 0 (rw (length-set rows i a) inside) ∙ sym (get_or-set_same rows i b 0 inside))
-    at k (no e) h = get_or-set_other (set rows i a) i k b 0 e ∙ get_or-set_other rows i k a 0 e ∙ sym (get_or-set_other rows i k b 0 e)
 
 -- a place past the last, written into a row, changes none of its cells
 beyond : (rows : Rows) (i j row : ℕ) (v : Bool) → places ≤ j → cells_of (set rows i (with_bit row j v)) ≡ cells_of (set rows i row)
@@ -65,7 +46,7 @@ at_hand rows i j row v = go (dec_lt j places) (dec_lt i (length rows))
         let past : places ≤ j = omega arith in
         beyond rows i j row v past ∙ sym (put_beyond (cells_of (set rows i row)) i j v past)
     go (yes h) (yes l) =
-        sym (ap (λ (n : ℕ). cells_of (set (set rows i row) i (with_bit n j v))) (get_or-set_same rows i row 0 l) ∙ ap cells_of (set_twice rows i row (with_bit row j v)))
+        sym (ap (λ (n : ℕ). cells_of (set (set rows i row) i (with_bit n j v))) (get_or-set_same rows i row 0 l) ∙ ap cells_of (set-set rows i row (with_bit row j v)))
         ∙ paired (set rows i row) i j v h
     go (yes h) (no l) =
         let out : length rows ≤ i = omega arith in

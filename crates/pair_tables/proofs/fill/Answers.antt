@@ -6,19 +6,20 @@ use mathlib.Core.Path.{◌≡◌, ap, ap₂, ◌∙◌}
 use mathlib.Core.Bool.{true}
 use mathlib.Core.List.{List, [], ◌∷◌}
 use lib.ListN.{get_or, set, length-append}
+use Rattle.std.proofs.lemmas.List.{set-get_or}
 use Rattle.bits.specs.Bits.{with_bit}
 use Rattle.bits.specs.Rows.{Rows, cells_of}
 use Rattle.state.specs.Cells.{put}
 use Rattle.pair_tables.specs.Pairs.{first_byte, second_byte, with_some}
 use Rattle.pair_tables.proofs.Pairs.{with_more}
-use Rattle.pair_tables.proofs.AtHand.{set_as_is, at_hand}
+use Rattle.pair_tables.proofs.AtHand.{at_hand}
 use Rattle.pair_tables.proofs.Walk.{begun, ended, taken}
 use Rattle.pair_tables.proofs.fill.Invariants.{AtHand}
 use Rattle.pair_tables.proofs.fill.Goals as goal
 
 begun_rows : (rows : Rows) (table : List ℕ) (row : ℕ) → row ≡ get_or rows 0 0 → AtHand rows table 0 rows 0 row
 unfolding with_some
-begun_rows rows table row e = ap cells_of (ap (set rows 0) e ∙ set_as_is rows 0)
+begun_rows rows table row e = ap cells_of (ap (set rows 0) e ∙ set-get_or rows 0 0)
 
 -- one turn, by what the calls promise
 turn : (rows₀ : Rows) (table : List ℕ) (k : ℕ) (before after : Rows) (i j at row own more : ℕ) → AtHand rows₀ table k before at row
