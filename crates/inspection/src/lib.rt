@@ -98,7 +98,7 @@ pub fn is_well_formed(s: &State) -> bool
 }
 
 // Is no pair in both relations?
-fn are_disjoint<'a>(these: &'a [u32; 64], those: &'a [u32; 64]) -> bool
+fn are_disjoint(these: &[u32; 64], those: &[u32; 64]) -> bool
     ensures { result ≡ each_below 64 (apart_at these.now those.now) }
 {
     let mut apart = true;

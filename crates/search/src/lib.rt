@@ -119,19 +119,14 @@ fn least_steps<M: Moves>(moves: &M, defined: u32, wanted: u32) -> Option<u8>
 
 // Does the object reach each area that is wanted? The structure comes with its transpose, which `relations::transposed`
 // makes once for many objects.
-pub fn reaches<'a>(
-    o: Object,
-    structure: &'a [u32; 32],
-    transposed: &'a [u32; 32],
-    wanted: u32,
-) -> bool
+pub fn reaches(o: Object, structure: &[u32; 32], transposed: &[u32; 32], wanted: u32) -> bool
     ensures { result ≡ is_subset wanted (reachable (bit o.defined) (move_by (cells_of structure.now) (cells_of
         transposed.now) (bit o.imported) (bit o.exported))) }
 {
     let moves = Turned {
-        o: o,
-        structure: structure,
-        transposed: transposed,
+        o,
+        structure,
+        transposed,
     };
     least_steps(&moves, o.defined, wanted).is_some()
 }
@@ -141,10 +136,7 @@ pub fn reaches_alone(o: Object, structure: &[u32; 32], wanted: u32) -> bool
     ensures { result ≡ is_subset wanted (reachable (bit o.defined) (move_by (cells_of structure.now) (transpose
         (cells_of structure.now)) (bit o.imported) (bit o.exported))) }
 {
-    let moves = Alone {
-        o: o,
-        structure: structure,
-    };
+    let moves = Alone { o, structure };
     least_steps(&moves, o.defined, wanted).is_some()
 }
 
@@ -160,7 +152,7 @@ pub fn steps(s: &State, area: u8, object: u8) -> Option<u8>
     }
     let o = object_of(s, object);
     let moves = Alone {
-        o: o,
+        o,
         structure: &s.structure,
     };
     least_steps(&moves, o.defined, bits::with_bit(0, area, true))
