@@ -26,6 +26,7 @@ use Rattle.state.proofs.Below.{each_at, each_by, each_add}
 use Rattle.state.proofs.Bools.{and_both, and_left, and_right, same_test, is_false, fails, not_so, so_not, not_not, implied, implies}
 use Rattle.state.proofs.Laws.{each_member_lem, each_pair_lem, member_inside, pair_area, pair_first}
 use Rattle.relations.proofs.Laws.{member_bit, pair_bit, row_empty}
+use Rattle.search.specs.Rounds.{object_in}
 use Rattle.soundness.specs.Tests.{named, all_own, all_owned, once, all_defined, some_listed, is_well_formed, disjoint}
 use Rattle.soundness.proofs.Tests.{named_decided, Once, once_decided}
 use Rattle.soundness.proofs.Laws.{some_decided}
@@ -220,7 +221,7 @@ module _ (s : State) (fits : Fits s) where
 
   -- objects: what their pairs name is listed, and a listed one is defined once; first of any of the 64, then as two halves
   abbrev object_test : ℕ → Bool
-  object_test o = object_fits (get_or s.definitions o 0) (get_or s.imports o 0) (get_or s.exports o 0) (member (cells_of s.objects) o) areas
+  object_test o = object_fits (object_in s o) (member (cells_of s.objects) o) areas
 
   abbrev object_names : Rows → Bool
   object_names rows = named (cells_of rows) (cells_of s.objects) (cells_of s.areas)
@@ -283,11 +284,11 @@ module _ (s : State) (fits : Fits s) where
       low : (k : ℕ) → k < 32 → half 0 0 k ≡ object_test k
       low k h =
           let z : 0 + k ≡ k = omega arith in
-          ap (λ (m : ℕ). object_fits (get_or s.definitions m 0) (get_or s.imports m 0) (get_or s.exports m 0) (bit (get_or s.objects 0 0) k) areas) z
-          ∙ ap (λ (b : Bool). object_fits (get_or s.definitions k 0) (get_or s.imports k 0) (get_or s.exports k 0) b areas) (sym (member_low s.objects k h))
+          ap (λ (m : ℕ). object_fits (object_in s m) (bit (get_or s.objects 0 0) k) areas) z
+          ∙ ap (λ (b : Bool). object_fits (object_in s k) b areas) (sym (member_low s.objects k h))
 
       high : (k : ℕ) → k < 32 → half 32 1 k ≡ object_test (32 + k)
-      high k h = ap (λ (b : Bool). object_fits (get_or s.definitions (32 + k) 0) (get_or s.imports (32 + k) 0) (get_or s.exports (32 + k) 0) b areas) (sym (member_high s.objects k h))
+      high k h = ap (λ (b : Bool). object_fits (object_in s (32 + k)) b areas) (sym (member_high s.objects k h))
 
   -- the same parts in another order
   reordered : (ow de st im ex own owned defined some : Bool)

@@ -3,6 +3,8 @@ use Rattle.std.specs.Prelude.{ℕ, ◌+◌, Bool, ◌&&◌, ◌||◌, not, cond,
 use Rattle.bits.specs.Bits.{bit, intersection, is_empty, is_subset, is_single}
 use Rattle.bits.specs.Rows.{Rows}
 use Rattle.state.specs.declared.State.{State}
+use Rattle.search.specs.Rounds.{object_in}
+use Rattle.search.specs.declared.Object.{Object}
 
 -- each place of the row is a listed area, and there is none unless the row's own number is listed
 unfoldable pub row_named : (row : ℕ) (first : Bool) (areas : ℕ) → Bool
@@ -13,10 +15,10 @@ unfoldable pub user_fits : (owned : ℕ) (listed : Bool) (areas : ℕ) → Bool
 user_fits owned listed areas = row_named owned listed areas && (not listed || not (is_empty owned))
 
 -- what an object's pairs name is listed, and it is defined in exactly one area if it is listed
-unfoldable pub object_fits : (defined imported exported : ℕ) (listed : Bool) (areas : ℕ) → Bool
-object_fits defined imported exported listed areas =
-    row_named defined listed areas && row_named imported listed areas && row_named exported listed areas
-    && (not listed || is_single defined)
+unfoldable pub object_fits : Object → (listed : Bool) (areas : ℕ) → Bool
+object_fits o listed areas =
+    row_named o.defined listed areas && row_named o.imported listed areas && row_named o.exported listed areas
+    && (not listed || is_single o.defined)
 
 -- the same of user u, of the structure pairs of area a, and of object from + k
 abbrev pub user_at : (owners : Rows) (users areas : ℕ) → ℕ → Bool
@@ -26,9 +28,7 @@ abbrev pub area_at : (structure : Rows) (areas : ℕ) → ℕ → Bool
 area_at structure areas a = row_named (get_or structure a 0) (bit areas a) areas
 
 abbrev pub object_at : State → (from objects areas : ℕ) → ℕ → Bool
-object_at s from objects areas k =
-    object_fits (get_or s.definitions (from + k) 0) (get_or s.imports (from + k) 0) (get_or s.exports (from + k) 0)
-    (bit objects k) areas
+object_at s from objects areas k = object_fits (object_in s (from + k)) (bit objects k) areas
 
 -- no place is in row o of both
 abbrev pub apart_at : (these those : Rows) → ℕ → Bool

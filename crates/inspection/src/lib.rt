@@ -11,6 +11,7 @@ ghost use Rattle.soundness.specs.Sound.{NoOwnImport, Sound};
 ghost use Rattle.soundness.specs.Tests.{some_listed, is_well_formed, no_own_import, is_sound};
 ghost use Rattle.inspection.specs.Parts.{row_named, user_fits, object_fits, user_at, area_at, object_at, apart_at};
 
+use search::Object;
 use state::State;
 
 // Does each pair of a row name a listed area, and is there none unless the row's own number is listed?
@@ -54,25 +55,27 @@ fn areas_fit(structure: &[u32; 32], areas: u32) -> bool
 }
 
 // Is what an object's pairs name listed, and is it defined in exactly one area if it is listed?
-fn object_fits(defined: u32, imported: u32, exported: u32, listed: bool, areas: u32) -> bool
-    ensures { result ≡ object_fits defined imported exported listed areas }
+fn object_fits(o: Object, listed: bool, areas: u32) -> bool
+    ensures { result ≡ object_fits o listed areas }
 {
-    is_named(defined, listed, areas)
-        & is_named(imported, listed, areas)
-        & is_named(exported, listed, areas)
-        & (!listed | bits::is_single(defined))
+    is_named(o.defined, listed, areas)
+        & is_named(o.imported, listed, areas)
+        & is_named(o.exported, listed, areas)
+        & (!listed | bits::is_single(o.defined))
 }
 
 // So it is for each of 32 objects, from `from` on; `objects` is their row of the set.
-fn objects_fit(s: &State, from: usize, objects: u32, areas: u32) -> bool
+fn objects_fit(s: &State, from: u8, objects: u32, areas: u32) -> bool
     requires { from ≤ 32 }
     ensures { result ≡ each_below 32 (object_at s.now from objects areas) }
 {
     let mut fits = true;
     for k in 0..32u8 {
-        let o = from + k as usize;
-        let listed = bits::is_set(objects, k);
-        fits &= object_fits(s.definitions[o], s.imports[o], s.exports[o], listed, areas);
+        fits &= object_fits(
+            search::object_of(s, from + k),
+            bits::is_set(objects, k),
+            areas,
+        );
     }
     fits
 }
