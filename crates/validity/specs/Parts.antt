@@ -1,20 +1,14 @@
--- Validity object by object, of relations that are handed over as rows.
-use Rattle.std.specs.Prelude.{ℕ, Bool, ◌&&◌, ◌||◌, not, []}
-use Rattle.bits.specs.Rows.{Rows, cells_of}
+-- Validity object by object.
+use Rattle.std.specs.Prelude.{ℕ, Bool, ◌&&◌, ◌||◌, not}
 use Rattle.state.specs.Below.{each_below, some_below}
 use Rattle.state.specs.Cells.{Pairs, pair}
-use Rattle.state.specs.Site.{Site, site_of, area, limit, imports, exports}
+use Rattle.state.specs.Site.{Site, area, limit, imports, exports}
 use Rattle.access.specs.Lending.{lending}
 use Rattle.access.specs.Answer.{access}
 
 -- "for each import or export pair the area has access to the object", of the pairs of object o
 unfoldable pub valid_for : Site → ℕ → Bool
 valid_for s o = each_below (limit area) (λ a. not (imports s o a || exports s o a) || access (lending s o) a)
-
--- a state with the relations of these rows and nothing else: access and `valid_for` read no more of it
-abbrev pub site_for : (definitions structure imports exports : Rows) → Site
-site_for definitions structure imports exports =
-    site_of [] [] [] [] (cells_of definitions) (cells_of structure) (cells_of imports) (cells_of exports)
 
 -- object o has a pair, of these or of those, whose area lacks access
 unfoldable pub lacking : Site → (these those : Pairs) → ℕ → Bool
