@@ -6,42 +6,39 @@ ghost use Rattle.std.specs.Prelude.{◌≤◌};
 use std::io;
 use std::io::Read;
 
-fn print(rt: &impl Print, text: &[u8]) -> io::Result<()> {
-    rt.write_all(text)
-}
-
 // The transcript in a buffer of this length.
 fn show(rt: &impl Print, input: &[u8], size: usize) -> io::Result<()>
     requires { size ≤ 80 }
 {
     let mut longest = [b'#'; 80];
-    let buffer = &mut longest[0..size];
-    let written = transcript::write(input, buffer);
-    let refusal = written.refusal;
-    let length = written.length;
+    let buffer = &mut longest[..size];
+    let (refusal, length) = match transcript::write(input, buffer) {
+        Ok(length) => (0, length),
+        Err(refusal) => (refusal.number(), 0),
+    };
     println!(rt; "a buffer of {size}: refusal {refusal}, length {length}")?;
-    print(rt, buffer)?;
-    print(rt, b"\n")
+    rt.write_all(buffer)?;
+    println!(rt)
 }
 
 fn session(rt: &impl Print, input: &[u8]) -> io::Result<()> {
-    show(rt, input, 0)?;
-    show(rt, input, 1)?;
-    show(rt, input, 72)?;
-    show(rt, input, 73)?;
-    show(rt, input, 76)
+    for size in [0, 1, 72, 73, 76] {
+        show(rt, input, size)?;
+    }
+    Ok(())
 }
 
 fn too_long(rt: &impl Print, input: &[u8]) -> io::Result<()> {
-    show(rt, input, 8)?;
-    show(rt, input, 9)?;
-    show(rt, input, 12)
+    for size in [8, 9, 12] {
+        show(rt, input, size)?;
+    }
+    Ok(())
 }
 
 // Both, each into its buffers.
 pub fn run<R: Read>(rt: &impl Print, input: &mut R) -> io::Result<()> {
     let mut bytes = [0u8; 4096];
     let count = input_reader::read_full(input, &mut bytes)?;
-    session(rt, &bytes[0..count])?;
+    session(rt, &bytes[..count])?;
     too_long(rt, &[0u8; 65537])
 }

@@ -18,32 +18,26 @@ const FILE: [u8; 62] = [
     0, 0, 0, 0,
 ];
 
-fn print(rt: &impl Print, text: &[u8]) -> io::Result<()> {
-    rt.write_all(text)
-}
-
 // How many bytes the label of the area has in the file, which ends after `size` bytes, and the bytes.
-fn tell(rt: &impl Print, name: &[u8], size: usize, area: u32) -> io::Result<()>
+fn tell(rt: &impl Print, name: &str, size: usize, area: u32) -> io::Result<()>
     requires { size ≤ 62 }
 {
-    let file = FILE;
-    let text = label_finder::label(&file[0..size], area);
+    let text = label_finder::label(&FILE[..size], area);
     let length = text.len();
-    print(rt, name)?;
-    print!(rt; ": {length} <")?;
-    print(rt, text)?;
-    print(rt, b">\n")
+    print!(rt; "{name}: {length} <")?;
+    rt.write_all(text)?;
+    println!(rt; ">")
 }
 
 // All of them.
 pub fn run(rt: &impl Print) -> io::Result<()> {
-    tell(rt, b"the label of area 0", 62, 0)?;
-    tell(rt, b"of area 1, which has none", 62, 1)?;
-    tell(rt, b"of area 255", 62, 255)?;
-    tell(rt, b"of area 256", 62, 256)?;
+    tell(rt, "the label of area 0", 62, 0)?;
+    tell(rt, "of area 1, which has none", 62, 1)?;
+    tell(rt, "of area 255", 62, 255)?;
+    tell(rt, "of area 256", 62, 256)?;
     tell(
         rt,
-        b"of area 0, in the same file without its last byte",
+        "of area 0, in the same file without its last byte",
         61,
         0,
     )

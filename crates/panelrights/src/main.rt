@@ -10,6 +10,6 @@ fn main(rt: HostRuntime) -> io::Result<()> {
     let mut input = [0u8; transcript::MOST_READ + 1];
     let count = input_reader::read_full(&mut rt.stdin(), &mut input)?;
     let mut output = [0u8; transcript::MOST_PRINTED];
-    let length = transcript::print(&input[0..count], &mut output);
-    rt.write_all(&output[0..length])
+    let length = transcript::print(&input[..count], &mut output);
+    rt.write_all(&output[..length])
 }
