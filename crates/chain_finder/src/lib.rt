@@ -60,6 +60,7 @@ pub fn least_counts(s: &State, object: u8) -> [u8; 32]
 // ---- the chain
 // Writes a chain of n steps to the area: at each place before the last, the lowest of the areas at hand from which the
 // steps that are left lead there. Row k has the areas from which k steps lead there.
+#[tactic(auto, unfolding(access::specs::Answer::longest))]
 fn put_walk<'a>(
     out: &'a mut [u8],
     rows: &'a [u32; 9],

@@ -1,12 +1,8 @@
 -- `chain_finder::count_as` meets its contract. The loop's invariant: the counts, with the areas that are left still to be counted, are those of the row.
 -- Assumes nothing.
-use borrow.Author.Rules.{rules}
 use Rattle.bits.proofs.Laws.{next_inside}
-use Rattle.chain_finder.proofs.Counting.{counted_none, counted_next, counted_all}
+use Rattle.chain_finder.proofs.Counting.{counted_next, counted_all}
 use Rattle.chain_finder.proofs.count_as.Goals as goal
-
-pub loop-area-init : goal.loop-area-init
-loop-area-init c = (tt, tt, counted_none _ _ _ (search rules) c.ranges.areas.fits c.requires)
 
 pub bounds-counts-area : goal.bounds-counts-area
 bounds-counts-area c = next_inside c.loop-area.invariant.2.left c.in-Some.ensures.steps

@@ -2,24 +2,11 @@
 -- are the walk from what is at hand; where no step is left, that is the area itself.
 -- Assumes nothing.
 use native.Mathlib.Omega.{arith}
-use Rattle.access.specs.Answer.{longest}
 use Rattle.chain_finder.proofs.Walking.{walked_none, walked_more, walked_all}
 use Rattle.chain_finder.proofs.put_walk.Goals as goal
 
-pub overflow_step-left : goal.overflow_step-left
-unfolding longest
-overflow_step-left c = omega arith
-
 pub loop-left-init : goal.loop-left-init
 loop-left-init c = (omega arith, walked_none _ _ _ _ _ _ (omega arith) c.well_formed.0.0 c.requires.2)
-
-pub offset_bounds-rows-left : goal.offset_bounds-rows-left
-unfolding longest
-offset_bounds-rows-left c = omega arith
-
-pub bounds-rows-left : goal.bounds-rows-left
-unfolding longest
-bounds-rows-left c = omega arith
 
 pub loop-left-preserved : goal.loop-left-preserved
 loop-left-preserved c = (

@@ -1,13 +1,9 @@
 -- `lost_pairs::first_area` meets its contract. The loop's invariant: the areas that are left lack access where those of the row do, and the others of
 -- the row have it.
 -- Assumes nothing.
-use borrow.Author.Rules.{rules}
 use Rattle.bits.proofs.Laws.{next_inside}
-use Rattle.lost_pairs.proofs.Lacking.{passed_none, passed_found, passed_next, passed_all}
+use Rattle.lost_pairs.proofs.Lacking.{passed_found, passed_next, passed_all}
 use Rattle.lost_pairs.proofs.first_area.Goals as goal
-
-pub loop-area-init : goal.loop-area-init
-loop-area-init c = (tt, tt, passed_none _ _ (search rules) c.ranges.areas.fits)
 
 pub bounds-counts-area : goal.bounds-counts-area
 bounds-counts-area c = next_inside c.loop-area.invariant.2.left c.in-Some.ensures.steps
