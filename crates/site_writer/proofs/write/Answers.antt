@@ -43,12 +43,12 @@ returns-then-not-is_sound c =
     let r = refused_so _ _ _ 12 (is_12 _ _ _ (unsound s l c.is_sound.ensures.equation c.if-not-is_sound.true)) refl in
     record { answer = r.0; buffer = r.1 }
 
-pub returns-then-not-are_lawful : goal.returns-then-not-are_lawful
-returns-then-not-are_lawful c =
+pub returns-then-not-is_lawful : goal.returns-then-not-is_lawful
+returns-then-not-is_lawful c =
     let s = site c.args.s.now in
     let l = c.args.labels.now in
     let t₁ = sound s l c.is_sound.ensures.equation c.if-not-is_sound.false in
-    let t₂ = unlawful s l c.are_lawful.ensures c.if-not-are_lawful.true in
+    let t₂ = unlawful s l c.is_lawful.ensures c.if-not-is_lawful.true in
     let r = refused_so _ _ _ 30 (is_30 _ _ _ t₁ t₂) refl in
     record { answer = r.0; buffer = r.1 }
 
@@ -57,9 +57,9 @@ returns-then-file-length c =
     let s = site c.args.s.now in
     let l = c.args.labels.now in
     let t₁ = sound s l c.is_sound.ensures.equation c.if-not-is_sound.false in
-    let t₂ = lawful s l c.are_lawful.ensures c.if-not-are_lawful.false in
+    let t₂ = lawful s l c.is_lawful.ensures c.if-not-is_lawful.false in
     -- the length that is compared is the file's
-    let long = stated_length _ _ _ c.fields_of-fields.ensures in
+    let long = stated_length _ _ _ c.fields-fields.ensures in
     let r = refused_so _ _ _ 31 (is_31 _ _ _ t₁ t₂ (too_short _ _ _ long c.if-file-length.true)) refl in
     record { answer = r.0; buffer = r.1 }
 
@@ -68,14 +68,14 @@ returns c =
     let s = site c.args.s.now in
     let l = c.args.labels.now in
     let t₁ = sound s l c.is_sound.ensures.equation c.if-not-is_sound.false in
-    let t₂ = lawful s l c.are_lawful.ensures c.if-not-are_lawful.false in
-    let long = stated_length _ _ _ c.fields_of-fields.ensures in
+    let t₂ = lawful s l c.is_lawful.ensures c.if-not-is_lawful.false in
+    let long = stated_length _ _ _ c.fields-fields.ensures in
     let room = large_enough _ _ _ long c.if-file-length.false in
     let r = written_so _ _ _ (is_0 _ _ _ t₁ t₂ (le-ltb _ _ room)) in
     let header = c.put_fields-header_end.ensures in
     let body = c.put_tables.ensures in
     let whole =
-    whole_file _ _ _ c.fields_of-fields.ensures _ _ _ _ _ c.well_formed.1.1.0.0 room (header.place, header.buffer)
+    whole_file _ _ _ c.fields-fields.ensures _ _ _ _ _ c.well_formed.1.1.0.0 room (header.place, header.buffer)
     (body.place, body.buffer)
     in
     record { answer = ap (written 0) long ∙ r.0; buffer = whole ∙ r.1 }

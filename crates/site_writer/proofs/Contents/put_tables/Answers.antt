@@ -1,4 +1,4 @@
--- `site_writer::put_tables` meets its contract. Turn k of the loop lays table k.
+-- `site_writer::Contents::put_tables` meets its contract. Turn k of the loop lays table k.
 -- Assumes nothing.
 use Prim.Native.Nat.{ℕ, ◌≤◌}
 use mathlib.Core.Path.{◌≡◌, ap, subst}
@@ -13,7 +13,7 @@ use Rattle.site_format.specs.declared.Table.TheVariants.{Labels}
 use Rattle.state.specs.Stands.{site}
 use Rattle.site_encoding.specs.Encode.{content_of, body_of}
 use Rattle.site_writer.proofs.Left.{left, one_more, none_left}
-use Rattle.site_writer.proofs.put_tables.Goals as goal
+use Rattle.site_writer.proofs.Contents.put_tables.Goals as goal
 
 by_tables : (s : Site) (l : List ℕ) (ts : List Table) → map held ts ≡ tables → (t : Table)
     → Turns 6 (λ k. content_of s l (held (get_or ts k t))) (λ k. body_of s l (left ts k))
@@ -31,16 +31,16 @@ all_laid s l ts e k at b end c w h =
     (turns_all _ _ _ (by_tables s l ts e Labels) k at b end c w h)
 
 pub loop-table-init : goal.loop-table-init
-loop-table-init c = turns_none _ _ _ _ c.ranges.at.fits c.well_formed.0.0
+loop-table-init c = turns_none _ _ _ _ c.ranges.at.fits c.well_formed.1.0.0
 
 pub loop-table-preserved : goal.loop-table-preserved
 loop-table-preserved c =
     let put = c.put_table-table_at.ensures in
-    let turns = by_tables (site c.args.s.now) c.args.labels.now _ c.all-table-items.ensures _ in
+    let turns = by_tables (site c.args.self.state.now) c.args.self.labels.now _ c.all-table-items.ensures _ in
     turns_more _ _ _ turns _ _ _ _ _ c.loop-table.invariant c.loop-table-test.true _ _ (put.place, put.buffer)
 
 pub returns : goal.returns
 returns c =
-    let p = all_laid (site c.args.s.now) c.args.labels.now _ c.all-table-items.ensures _ _ _ _ _ c.loop-table.invariant
+    let p = all_laid (site c.args.self.state.now) c.args.self.labels.now _ c.all-table-items.ensures _ _ _ _ _ c.loop-table.invariant
     c.loop-table-test.false in
     record { place = p.0; buffer = p.1 }

@@ -1,8 +1,0 @@
--- `site_writer::count_of` meets its contract.
--- Assumes nothing.
-use native.Mathlib.Omega.{arith}
-use Rattle.label_tables.proofs.Laws.{label_count_fits}
-use Rattle.site_writer.proofs.count_of.Goals as goal
-
-pub overflow_cast-result : goal.overflow_cast-result
-overflow_cast-result c = omega (arith, label_count_fits c.args.labels.now c.requires.is_in_range c.requires.ascending)
