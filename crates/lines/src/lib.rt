@@ -1,10 +1,10 @@
 // The lines of an input: four decimal numbers, read from their bytes.
 #![tactic(auto)]
 
-ghost use Rattle.std.specs.Prelude.{◌≡◌, ◌∷◌, ◌++◌, ◌==◌, Some, MatchOption, length, position};
+ghost use Rattle.std.specs.Prelude.{◌≡◌, [], ◌∷◌, ◌++◌, ◌==◌, Some, MatchOption, length, position};
 ghost use Rattle.lines.specs.Words.{word_number};
 ghost use Rattle.lines.specs.Digits.{with_digit, extended, Lacks};
-ghost use Rattle.lines.specs.Lines.{line_number, line_of, first_line_of};
+ghost use Rattle.lines.specs.Lines.{line_number, line_by, line_of, first_line_of};
 ghost use Rattle.lines.specs.Claims.{NumberOfFirst};
 
 use instructions::Bytes;
@@ -61,6 +61,18 @@ fn number(word: &[u8]) -> Option<u8>
     Some(n)
 }
 
+// The line of four numbers, if each is one.
+fn line_by(code: Option<u8>, activator: Option<u8>, a: Option<u8>, b: Option<u8>) -> Option<Bytes>
+    ensures { result ≡ line_by (code ∷ activator ∷ a ∷ b ∷ []) }
+{
+    Some(Bytes {
+        code: code?,
+        activator: activator?,
+        a: a?,
+        b: b?,
+    })
+}
+
 // What a line says, its byte 10 left out. What stands behind the third space is the last number, or holds a space and
 // is none.
 fn read_line(text: &[u8]) -> Option<Bytes>
@@ -69,12 +81,7 @@ fn read_line(text: &[u8]) -> Option<Bytes>
     let (first, others) = split_once(text, b' ')?;
     let (second, last_two) = split_once(others, b' ')?;
     let (third, fourth) = split_once(last_two, b' ')?;
-    Some(Bytes {
-        code: number(first)?,
-        activator: number(second)?,
-        a: number(third)?,
-        b: number(fourth)?,
-    })
+    line_by(number(first), number(second), number(third), number(fourth))
 }
 
 // The first line of the bytes, and how many of them it takes. A line that no byte 10 ends is unreadable, and takes all

@@ -1,7 +1,7 @@
 -- `lines::read_line` meets its contract: the text's words are taken from its front, one by one.
 -- Assumes nothing.
-use mathlib.Core.Path.{refl, ◌∙◌}
-use Rattle.std.proofs.Common.{Some, None, []}
+use mathlib.Core.Path.{◌∙◌}
+use Rattle.std.proofs.Common.{[]}
 use Rattle.lines.proofs.Texts.{too_few, short_2, short_3, read}
 use Rattle.lines.proofs.read_line.Goals as goal
 
@@ -15,30 +15,8 @@ pub returns-in_err-third : goal.returns-in_err-third
 returns-in_err-third c =
     c.from_residual-in_err-third.ensures ∙ short_3 _ _ _ _ _ [] [] c.in_ok-first.ensures c.in_ok-second.ensures c.in_err-third.ensures
 
-pub returns-in_err-number : goal.returns-in_err-number
-returns-in_err-number c =
-    c.from_residual-in_err-number.ensures
-    ∙ read _ _ _ _ _ _ _ c.in_ok-first.ensures c.in_ok-second.ensures c.in_ok-third.ensures None _ _ _ c.in_err-number.ensures refl refl refl
-
-pub returns-in_err-number-2 : goal.returns-in_err-number-2
-returns-in_err-number-2 c =
-    c.from_residual-in_err-number-2.ensures
-    ∙ read _ _ _ _ _ _ _ c.in_ok-first.ensures c.in_ok-second.ensures c.in_ok-third.ensures (Some _) None _ _
-    c.in_ok-number.ensures c.in_err-number-2.ensures refl refl
-
-pub returns-in_err-number-3 : goal.returns-in_err-number-3
-returns-in_err-number-3 c =
-    c.from_residual-in_err-number-3.ensures
-    ∙ read _ _ _ _ _ _ _ c.in_ok-first.ensures c.in_ok-second.ensures c.in_ok-third.ensures (Some _) (Some _) None _
-    c.in_ok-number.ensures c.in_ok-number-2.ensures c.in_err-number-3.ensures refl
-
-pub returns-in_err-number-4 : goal.returns-in_err-number-4
-returns-in_err-number-4 c =
-    c.from_residual-in_err-number-4.ensures
-    ∙ read _ _ _ _ _ _ _ c.in_ok-first.ensures c.in_ok-second.ensures c.in_ok-third.ensures (Some _) (Some _) (Some _) None
-    c.in_ok-number.ensures c.in_ok-number-2.ensures c.in_ok-number-3.ensures c.in_err-number-4.ensures
-
 pub returns : goal.returns
 returns c =
-    read _ _ _ _ _ _ _ c.in_ok-first.ensures c.in_ok-second.ensures c.in_ok-third.ensures (Some _) (Some _) (Some _) (Some _)
-    c.in_ok-number.ensures c.in_ok-number-2.ensures c.in_ok-number-3.ensures c.in_ok-number-4.ensures
+    c.line_by.ensures
+    ∙ read _ _ _ _ _ _ _ c.in_ok-first.ensures c.in_ok-second.ensures c.in_ok-third.ensures _ _ _ _
+    c.number.ensures c.number-2.ensures c.number-3.ensures c.number-4.ensures
