@@ -88,7 +88,8 @@ fn put_walk<'a>(
 
 // Writes the first chain of the object to the area, and answers how many areas it has: 0 without access, and then
 // nothing is written. The areas from which one step more leads to the area are found backwards: a step is gone back by
-// a step with imports and exports exchanged. Where there are none, there are none for more steps.
+// a step with imports and exports exchanged. Where there are none, there are none for more steps. The loop counts the
+// steps, n, which also says where their row is kept.
 pub fn put_chain(s: &State, area: u8, object: u8, out: &mut [u8]) -> usize
     ensures place { result ≡ length (first_chain (lending (site s.now) object) area) }
     ensures buffer { out.new ≡ laid (first_chain (lending (site s.now) object) area) 0 out.old }

@@ -9,7 +9,9 @@ ghost use Rattle.output.specs.Buffer.{laid, place_behind, as_written, written_of
 use verdicts::Refusal;
 
 // Writes the byte if the buffer goes so far, and answers the place behind it. The functions below do so with their
-// texts: in a buffer of no bytes they only count.
+// texts: in a buffer of no bytes they only count. Buffer and place are two values: a struct that holds both would add
+// to each contract, here and above, that it keeps the caller's buffer. The byte is written by its index, since behind
+// a write through `get_mut` a proof knows the buffer's length alone.
 pub fn put(out: &mut [u8], at: usize, byte: u8) -> usize
     ensures place { result ≡ place_behind at (byte ∷ []) }
     ensures buffer { out.new ≡ laid (byte ∷ []) at out.old }
