@@ -1,7 +1,7 @@
 #!/usr/bin/env bash
 # Sees that the record of a state is known in few crates: no other crate's source names a field of a `State` or makes
 # one, and no other crate's proof looks into `site`, which says what a record stands for. So another way of keeping a
-# state changes these crates, and what they lend its arrays to. A crate of the list that needs none of it is a fault too.
+# state changes these crates, and what they lend its arrays to. A crate that stands in the list without need is a fault.
 set -euo pipefail
 export LC_ALL=C
 cd "$(dirname "$0")/.."
