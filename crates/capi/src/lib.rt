@@ -1,24 +1,39 @@
 // The C interface, which include/panelrights.h declares: numbers and byte slices. Each function takes a record apart,
-// where it is handed one, and calls one function of a crate below that decides; no rule stands here.
+// where it is handed one, and calls one function of a crate below that decides; no rule stands here. What that one
+// answers crosses as a number.
 #![tactic(auto)]
 
 ghost use Rattle.std.specs.Prelude.{◌+◌, ◌*◌, ◌≡◌};
+ghost use Rattle.verdicts.specs.Refusals.{refusal_number};
 ghost use Rattle.records.specs.Record.{record_size, number_for};
 ghost use Rattle.instructions.specs.Instructions.{four_bytes};
 ghost use Rattle.marks.specs.Marks.{lowest};
-ghost use Rattle.access.specs.Answer.{answer_number};
+ghost use Rattle.machine.specs.Step.{as_reply};
+ghost use Rattle.reasons.specs.Explanation.{as_explanation};
+ghost use Rattle.reasons.specs.Lost.{as_reason};
+ghost use Rattle.label_finder.specs.Finder.{place_or_front};
 ghost use Rattle.interface.specs.Interface.{founding_buffer, step_number, step_buffer, answer_of, access_number};
 ghost use Rattle.interface.specs.Interface.{call_of, recipe_answer, recipe_buffer, file_number, file_buffer};
 ghost use Rattle.interface.specs.Interface.{label_number, block_number, place_number, write_answer, write_buffer};
-ghost use Rattle.interface.specs.Interface.{explanation_code, explain_answer, explain_buffer, lost_code};
+ghost use Rattle.interface.specs.Interface.{explanation_code, explain_answer, explain_buffer, lost_code, reason_code};
 ghost use Rattle.interface.specs.Interface.{explain_step_answer};
 
-use access::Answer;
+use instructions::Bytes;
 use label_finder::Place;
-use machine::Reply;
-use reasons::{Entry, Explanation, Lost};
+use reasons::{Entry, Explained, Lost, StepRefused};
 use recipes::Call;
 use state::State;
+use verdicts::Refusal;
+
+// The number that stands for what may be refused: the refusal's, or 0.
+fn number_of(answer: Result<(), Refusal>) -> u8
+    ensures { result ≡ refusal_number answer }
+{
+    match answer {
+        Ok(()) => 0,
+        Err(refusal) => refusal.number(),
+    }
+}
 
 // How many bytes the record of a state has.
 #[unsafe(no_mangle)]
@@ -34,7 +49,7 @@ pub extern "C" fn panelrights_founding(state: &mut [u8]) -> u8
     ensures number { result ≡ number_for state.old }
     ensures buffer { state.new ≡ founding_buffer state.old }
 {
-    record_writer::write(State::founding(), state)
+    number_of(record_writer::write(&State::founding(), state))
 }
 
 // Obeys one instruction: 0 and the state after it in place, or the refusal and no byte changed. Bytes that are no
@@ -45,11 +60,16 @@ pub extern "C" fn panelrights_step(state: &mut [u8], code: u8, activator: u8, a:
     ensures number { result ≡ step_number state.old (four_bytes code activator a b) }
     ensures buffer { state.new ≡ step_buffer state.old (four_bytes code activator a b) }
 {
-    let refusal = machine::refusal(record_reader::state_of(state), code, activator, a, b);
-    if refusal != 0 {
-        return refusal;
+    let four = Bytes {
+        code,
+        activator,
+        a,
+        b,
+    };
+    if let Err(refusal) = machine::check(&record_reader::state_of(state), four) {
+        return refusal.number();
     }
-    record_changes::change(state, code, activator, a, b);
+    record_changes::change(state, four);
     0
 }
 
@@ -71,35 +91,24 @@ pub extern "C" fn panelrights_recipe<'a>(
         ≡ recipe_buffer state.old recipe.now (call_of activator p0 p1 p2 p3) }
 {
     let call = Call {
-        activator: activator,
+        activator,
         parameters: [p0, p1, p2, p3],
     };
-    let outcome = recipes::obey(record_reader::state_of(state), recipe, call);
-    let refusal = outcome.refusal;
-    if refusal != 0 {
-        return outcome.place as u16 * 256 + refusal as u16;
+    let mut s = record_reader::state_of(state);
+    if let Err(refused) = recipes::obey(&mut s, recipe, call) {
+        return refused.place as u16 * 256 + refused.refusal.number() as u16;
     }
-    let next = outcome.state;
-    record_writer::write(next, state) as u16
+    number_of(record_writer::write(&s, state)) as u16
 }
 
-// The number that stands for an answer: the steps, or 255 for no access.
-fn number_of(answer: Answer) -> u16
-    ensures { result ≡ answer_number answer }
-{
-    match answer {
-        Answer::Steps(n) => n as u16,
-        Answer::NoAccess => 255,
-    }
-}
-
-// The number that stands for a reply: that of the answer, or 256 + n for refusal n.
-fn answer_of(reply: Reply) -> u16
-    ensures { result ≡ answer_of reply }
+// The number that stands for a reply: the steps, 255 for no access, or 256 + n for refusal n.
+fn answer_of(reply: Result<Option<u8>, Refusal>) -> u16
+    ensures { result ≡ answer_of (as_reply reply) }
 {
     match reply {
-        Reply::Answered(answer) => number_of(answer),
-        Reply::Refused(n) => 256 + n as u16,
+        Ok(Some(steps)) => steps as u16,
+        Ok(None) => 255,
+        Err(refused) => 256 + refused.number() as u16,
     }
 }
 
@@ -108,18 +117,18 @@ fn answer_of(reply: Reply) -> u16
 pub extern "C" fn panelrights_access(state: &[u8], area: u32, object: u32) -> u16
     ensures { result ≡ access_number state.now area object }
 {
-    answer_of(machine::ask(record_reader::state_of(state), area, object))
+    answer_of(machine::ask(&record_reader::state_of(state), area, object))
 }
 
 // The number that stands for an explanation: how many bytes the chain has, 512 + those of the counts, or 256 + n for
 // refusal n.
-fn explanation_code(explanation: Explanation) -> u16
-    ensures { result ≡ explanation_code explanation }
+fn explanation_code(explanation: Result<Explained, Refusal>) -> u16
+    ensures { result ≡ explanation_code (as_explanation explanation) }
 {
     match explanation {
-        Explanation::ByChain(count) => count as u16,
-        Explanation::ByCounts(count) => 512 + count as u16,
-        Explanation::Unexplained(n) => 256 + n as u16,
+        Ok(Explained::Chain(count)) => count as u16,
+        Ok(Explained::Counts(count)) => 512 + count as u16,
+        Err(refusal) => 256 + refusal.number() as u16,
     }
 }
 
@@ -135,8 +144,8 @@ pub extern "C" fn panelrights_explain<'a>(
     ensures buffer { buffer.new
         ≡ explain_buffer state.now area object buffer.old }
 {
-    let explanation = explain::explain(record_reader::state_of(state), area, object, buffer);
-    explanation_code(explanation)
+    let s = record_reader::state_of(state);
+    explanation_code(explain::explain(&s, area, object, buffer))
 }
 
 // An object and an area in the two highest bytes of a number.
@@ -147,13 +156,23 @@ fn entry_code(entry: Entry) -> u32
 }
 
 // The number that stands for a pair that is lost: 1 for an import, 2 for an export in the byte below; 0 for none.
-fn lost_code(lost: Lost) -> u32
+fn lost_code(lost: Option<Lost>) -> u32
     ensures { result ≡ lost_code lost }
 {
     match lost {
-        Lost::NoneLost => 0,
-        Lost::LostImport(entry) => 256 + entry_code(entry),
-        Lost::LostExport(entry) => 512 + entry_code(entry),
+        None => 0,
+        Some(Lost::Import(entry)) => 256 + entry_code(entry),
+        Some(Lost::Export(entry)) => 512 + entry_code(entry),
+    }
+}
+
+// The number that stands for why an instruction is refused: 0 for one that is not.
+fn reason_code(reason: Result<(), StepRefused>) -> u32
+    ensures { result ≡ reason_code (as_reason reason) }
+{
+    match reason {
+        Ok(()) => 0,
+        Err(refused) => refused.refusal.number() as u32 + lost_code(refused.lost),
     }
 }
 
@@ -168,9 +187,13 @@ pub extern "C" fn panelrights_explain_step(
 ) -> u32
     ensures { result ≡ explain_step_answer state.now (four_bytes code activator a b) }
 {
-    let reason = explain::explain_step(record_reader::state_of(state), code, activator, a, b);
-    let lost = reason.lost;
-    reason.refusal as u32 + lost_code(lost)
+    let four = Bytes {
+        code,
+        activator,
+        a,
+        b,
+    };
+    reason_code(explain::explain_step(&record_reader::state_of(state), four))
 }
 
 // Reads a site file: 0 and its state, or 21 to 29 and the founding state; 31 and no byte written, if the state's buffer
@@ -180,20 +203,23 @@ pub extern "C" fn panelrights_read_file<'a>(file: &'a [u8], state: &'a mut [u8])
     ensures number { result ≡ file_number file.now state.old }
     ensures buffer { state.new ≡ file_buffer file.now state.old }
 {
-    let reading = site_file::read(file);
-    let found = reading.state;
-    let missized = record_writer::write(found, state);
-    if missized != 0 {
-        return missized;
+    match site_file::read(file) {
+        Ok(s) => number_of(record_writer::write(&s, state)),
+        Err(refusal) => {
+            let written = record_writer::write(&State::founding(), state);
+            number_of(written.and(Err(refusal)))
+        }
     }
-    reading.refusal
 }
 
-// The number that stands for a place in a file: offset * 65536 + length.
-fn place_number(place: Place) -> u32
-    ensures { result ≡ place_number place }
+// The number that stands for a place in a file: offset * 65536 + length, 0 for none.
+fn place_number(place: Option<Place>) -> u32
+    ensures { result ≡ place_number (place_or_front place) }
 {
-    place.at as u32 * 65536 + place.length as u32
+    match place {
+        Some(place) => place.at as u32 * 65536 + place.length as u32,
+        None => 0,
+    }
 }
 
 // Where the text of the area's label stands in the file: offset * 65536 + length, 0 if there is none.
@@ -224,12 +250,10 @@ pub extern "C" fn panelrights_write_file<'a>(
     ensures buffer { file.new
         ≡ write_buffer state.now labels.now file.old }
 {
-    let written = site_writer::write(record_reader::state_of(state), labels, file);
-    let refusal = written.refusal;
-    if refusal != 0 {
-        return 65536 + refusal as u32;
+    match site_writer::write(&record_reader::state_of(state), labels, file) {
+        Ok(length) => length as u32,
+        Err(refusal) => 65536 + refusal.number() as u32,
     }
-    written.length as u32
 }
 
 // The place (0 to 7) of the lowest mark set in the byte, 8 if none.

@@ -5,8 +5,7 @@ use mathlib.Core.Path.{◌≡◌, sym, ap, ◌∙◌}
 use mathlib.Core.List.{List}
 use Rattle.state.specs.Site.{Site}
 use Rattle.records.specs.Record.{state_of}
-use Rattle.machine.specs.Step.{reply_of}
-use Rattle.machine.specs.declared.Reply.{Reply}
+use Rattle.machine.specs.Step.{Reply, reply_of}
 use Rattle.interface.specs.Interface.{answer_of, access_number}
 use Rattle.interface.proofs.Steps.{reply_is}
 use Rattle.capi.proofs.panelrights_access.Goals as goal

@@ -2,9 +2,10 @@
 -- accepted.
 -- Assumes nothing.
 use Prim.Native.Nat.{ℕ, ◌+◌, ◌*◌}
-use mathlib.Core.Path.{◌≡◌, ap, sym, ◌∙◌}
+use mathlib.Core.Path.{◌≡◌, refl, ap, sym, ◌∙◌}
 use mathlib.Core.List.{List}
 use native.Mathlib.Omega.{arith}
+use Rattle.verdicts.proofs.Laws.{never_zero}
 use Rattle.state.specs.Site.{Site}
 use Rattle.records.specs.Record.{state_of, number_for, stored}
 use Rattle.recipes.specs.Run.{RecipeVerdict, recipe_of}
@@ -28,12 +29,13 @@ module _ (state bytes : List ℕ) (call : Call) {s : Site} {v : RecipeVerdict} (
       let none = accepted_answer s bytes call (sym (ap (λ (o : RecipeVerdict). o.refusal) given) ∙ z) in
       written (recipes bytes call) state told none (ap (λ (o : RecipeVerdict). o.state) given) e w
 
-pub returns-then-refusal-ne0 : goal.returns-then-refusal-ne0
-returns-then-refusal-ne0 c =
-    let p = left_alone _ _ _ c.state_of.ensures c.obey-outcome.ensures c.if-refusal-ne0.true in
-    record { number = p.0; buffer = p.1 }
+pub returns-in-Err : goal.returns-in-Err
+returns-in-Err c =
+    let n = c.number.ensures in
+    let p = left_alone _ _ _ c.state_of-s.ensures c.in-Err.ensures (never_zero _) in
+    record { number = ap (λ (k : ℕ). c.in-Err.refused.place * 256 + k) n ∙ p.0; buffer = p.1 }
 
 pub returns : goal.returns
 returns c =
-    let p = changed _ _ _ c.state_of.ensures c.obey-outcome.ensures c.if-refusal-ne0.false c.write.ensures.number c.write.ensures.bytes in
+    let p = changed _ _ _ c.state_of-s.ensures c.in_default.ensures refl (c.number_of.ensures ∙ c.write.ensures.number) c.write.ensures.bytes in
     record { number = p.0; buffer = p.1 }

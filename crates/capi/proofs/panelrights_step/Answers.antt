@@ -1,8 +1,9 @@
 -- `capi::panelrights_step` meets its contract: the number is that of the machine, and where it is 0 the bytes are made those of its state.
 -- Assumes nothing.
 use Prim.Native.Nat.{ℕ}
-use mathlib.Core.Path.{◌≡◌, ap, sym, ◌∙◌}
+use mathlib.Core.Path.{◌≡◌, refl, ap, sym, ◌∙◌}
 use mathlib.Core.List.{List}
+use Rattle.verdicts.proofs.Laws.{never_zero}
 use Rattle.state.specs.Site.{Site}
 use Rattle.records.specs.Record.{state_of}
 use Rattle.instructions.specs.Instructions.{Bytes}
@@ -30,12 +31,13 @@ module _ (state : List ℕ) (x : Bytes) {s : Site} {n : ℕ} (told : s ≡ state
       let there = made (steps x) state told next (sym number ∙ z) given_next w in
       (sym there.0, there.1)
 
-pub returns-then-refusal-ne0 : goal.returns-then-refusal-ne0
-returns-then-refusal-ne0 c =
-    let p = left_alone _ _ c.state_of.ensures c.refusal-refusal.ensures c.if-refusal-ne0.true in
+pub returns-in-Err : goal.returns-in-Err
+returns-in-Err c =
+    let n = c.number.ensures in
+    let p = left_alone _ _ c.state_of.ensures (n ∙ c.in-Err.ensures) (λ z. never_zero _ (sym n ∙ z)) in
     record { number = p.0; buffer = p.1 }
 
 pub returns : goal.returns
 returns c =
-    let p = changed _ _ c.state_of.ensures c.refusal-refusal.ensures c.if-refusal-ne0.false c.change.ensures in
+    let p = changed _ _ c.state_of.ensures c.in_default.ensures refl c.change.ensures in
     record { number = p.0; buffer = p.1 }

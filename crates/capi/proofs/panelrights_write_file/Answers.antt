@@ -1,12 +1,13 @@
 -- `capi::panelrights_write_file` meets its contract: what the writer gives for the state that the bytes stand for.
 -- Assumes nothing.
 use Prim.Native.Nat.{ℕ, ◌+◌, ◌≤◌}
-use mathlib.Core.Path.{◌≡◌, sym, ap, subst, ◌∙◌}
+use mathlib.Core.Path.{◌≡◌, refl, sym, ap, subst, ◌∙◌}
 use mathlib.Core.List.{List}
 use native.Mathlib.Omega.{arith}
+use Rattle.verdicts.proofs.Laws.{never_zero}
 use Rattle.state.specs.Site.{Site}
 use Rattle.records.specs.Record.{state_of}
-use Rattle.output.specs.declared.Written.{Written}
+use Rattle.output.specs.Buffer.{Written}
 use Rattle.site_encoding.specs.Writer.{write_of, buffer_after}
 use Rattle.interface.specs.Interface.{write_answer, write_buffer}
 use Rattle.interface.proofs.Writes.{buffer_is, refused_answer, written_answer, written_small}
@@ -29,19 +30,23 @@ module _ (state block file : List ℕ) (s : Site) (made : s ≡ state_of state) 
   kept : (after : List ℕ) → after ≡ buffer_after s block file → after ≡ write_buffer state block file
   kept after h = h ∙ ap (λ (t : Site). buffer_after t block file) made ∙ sym (buffer_is state block file)
 
-pub returns-then-refusal-ne0 : goal.returns-then-refusal-ne0
-returns-then-refusal-ne0 c =
+pub returns-in-Err : goal.returns-in-Err
+returns-in-Err c =
     let made = c.state_of.ensures in
-    let e = c.write-written.ensures in
-    record { number = refused _ _ _ _ made _ e.answer c.if-refusal-ne0.true; buffer = kept _ _ _ _ made _ e.answer _ e.buffer }
+    let e = c.in-Err.ensures in
+    let n = c.number.ensures in
+    record {
+      number = ap (λ (k : ℕ). 65536 + k) n ∙ refused _ _ _ _ made _ e.answer (never_zero _);
+      buffer = kept _ _ _ _ made _ e.answer _ e.buffer;
+    }
 
-pub overflow_cast-result-2 : goal.overflow_cast-result-2
-overflow_cast-result-2 c =
+pub overflow_cast-result : goal.overflow_cast-result
+overflow_cast-result c =
     let made = c.state_of.ensures in
-    omega (arith, small _ _ _ _ made _ c.write-written.ensures.answer c.if-refusal-ne0.false)
+    omega (arith, small _ _ _ _ made _ c.in-Ok.ensures.answer refl)
 
-pub returns : goal.returns
-returns c =
+pub returns-in-Ok : goal.returns-in-Ok
+returns-in-Ok c =
     let made = c.state_of.ensures in
-    let e = c.write-written.ensures in
-    record { number = accepted _ _ _ _ made _ e.answer c.if-refusal-ne0.false; buffer = kept _ _ _ _ made _ e.answer _ e.buffer }
+    let e = c.in-Ok.ensures in
+    record { number = accepted _ _ _ _ made _ e.answer refl; buffer = kept _ _ _ _ made _ e.answer _ e.buffer }
