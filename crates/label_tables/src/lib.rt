@@ -48,9 +48,7 @@ fn label_fits(entry: &[u8]) -> bool
 pub fn all_fit(table: &[u8]) -> bool
     ensures { result ≡ labels_fit table.now }
 {
-    table
-        .chunks_exact(LABEL_SIZE)
-        .all(|entry| label_fits(entry))
+    table.chunks_exact(LABEL_SIZE).all(label_fits)
 }
 
 // Is each entry's area below the next's?
