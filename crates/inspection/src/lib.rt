@@ -15,6 +15,7 @@ use search::Object;
 use state::State;
 
 // Does each pair of a row name a listed area, and is there none unless the row's own number is listed?
+#[tactic(auto, unfolding(crate::specs::Parts::row_named))]
 fn is_named(row: u32, first: bool, areas: u32) -> bool
     ensures { result ≡ row_named row first areas }
 {
@@ -26,6 +27,7 @@ fn is_named(row: u32, first: bool, areas: u32) -> bool
 }
 
 // Is what a user owns listed, and owns he an area if he is listed?
+#[tactic(auto, unfolding(crate::specs::Parts::user_fits))]
 fn user_fits(owned: u32, listed: bool, areas: u32) -> bool
     ensures { result ≡ user_fits owned listed areas }
 {
@@ -33,6 +35,7 @@ fn user_fits(owned: u32, listed: bool, areas: u32) -> bool
 }
 
 // So it is for every user.
+#[tactic(auto, using(state::proofs::Below::each_none, state::proofs::Below::each_step))]
 fn users_fit(owners: &[u32; 32], users: u32, areas: u32) -> bool
     ensures { result ≡ each_below 32 (user_at owners.now users areas) }
 {
@@ -44,6 +47,7 @@ fn users_fit(owners: &[u32; 32], users: u32, areas: u32) -> bool
 }
 
 // Is what each structure pair names listed?
+#[tactic(auto, using(state::proofs::Below::each_none, state::proofs::Below::each_step))]
 fn areas_fit(structure: &[u32; 32], areas: u32) -> bool
     ensures { result ≡ each_below 32 (area_at structure.now areas) }
 {
@@ -55,6 +59,7 @@ fn areas_fit(structure: &[u32; 32], areas: u32) -> bool
 }
 
 // Is what an object's pairs name listed, and is it defined in exactly one area if it is listed?
+#[tactic(auto, unfolding(crate::specs::Parts::object_fits))]
 fn object_fits(o: Object, listed: bool, areas: u32) -> bool
     ensures { result ≡ object_fits o listed areas }
 {
@@ -65,6 +70,7 @@ fn object_fits(o: Object, listed: bool, areas: u32) -> bool
 }
 
 // So it is for each of 32 objects, from `from` on; `objects` is their row of the set.
+#[tactic(auto, using(state::proofs::Below::each_none, state::proofs::Below::each_step))]
 fn objects_fit(s: &State, from: u8, objects: u32, areas: u32) -> bool
     requires { from ≤ 32 }
     ensures { result ≡ each_below 32 (object_at s.now from objects areas) }

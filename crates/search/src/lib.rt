@@ -57,6 +57,7 @@ impl<'a> Moves for Turned<'a> {
         (bit m.o.exported) };
 
     // Out of the areas that export the object, and into those that import it.
+    #[tactic(auto, using(crate::proofs::OneStep::next_is))]
     fn next(&self, layer: u32) -> u32 {
         let structure = self.structure;
         let transposed = self.transposed;
@@ -84,6 +85,7 @@ impl<'a> Moves for Alone<'a> {
 }
 
 // One step of an object by itself: the rows of those that import it are looked at.
+#[tactic(auto, using(crate::proofs::OneStep::next_is))]
 pub fn next_alone(layer: u32, structure: &[u32; 32], imported: u32, exported: u32) -> u32
     ensures { result ≡ next_to (move_by (cells_of structure.now) (transpose (cells_of structure.now))
         (bit imported) (bit exported)) layer }
@@ -119,6 +121,7 @@ fn least_steps<M: Moves>(moves: &M, defined: u32, wanted: u32) -> Option<u8>
 
 // Does the object reach each area that is wanted? The structure comes with its transpose, which `relations::transposed`
 // makes once for many objects.
+#[tactic(auto, using(crate::proofs::Layers::found_some, crate::proofs::Layers::some_within))]
 pub fn reaches(o: Object, structure: &[u32; 32], transposed: &[u32; 32], wanted: u32) -> bool
     ensures { result ≡ is_subset wanted (reachable (bit o.defined) (move_by (cells_of structure.now) (cells_of
         transposed.now) (bit o.imported) (bit o.exported))) }
@@ -132,6 +135,7 @@ pub fn reaches(o: Object, structure: &[u32; 32], transposed: &[u32; 32], wanted:
 }
 
 // The same, for an object by itself.
+#[tactic(auto, using(crate::proofs::Layers::found_some, crate::proofs::Layers::some_within))]
 pub fn reaches_alone(o: Object, structure: &[u32; 32], wanted: u32) -> bool
     ensures { result ≡ is_subset wanted (reachable (bit o.defined) (move_by (cells_of structure.now) (transpose
         (cells_of structure.now)) (bit o.imported) (bit o.exported))) }

@@ -35,6 +35,7 @@ pub fn is_valid(s: &State) -> bool
 }
 
 // Is the record valid as far as one object goes: has each area that imports or exports the object access to it?
+#[tactic(auto, using(crate::proofs::Laws::for_by_rows))]
 pub fn is_valid_for(s: &State, object: u8) -> bool
     ensures { result ≡ valid_for (site s.now) object }
 {

@@ -33,7 +33,7 @@ tested s tr these those turned object o wanted r v here u e t = sym (not_same fo
     known = e ∙ rw (u, here) (subset_lacking s (cells_of tr) these those turned object)
 
 pub loop-o-init : goal.loop-o-init
-loop-o-init c = (omega arith, some_none _)
+loop-o-init c = some_none _
 
 -- what the search tells of the object whose turn it is
 asked : (c : After-reaches) (v : Bool) → not c.reaches.result ≡ v
@@ -46,14 +46,14 @@ asked c v e =
 
 pub returns-then-not-reaches : goal.returns-then-not-reaches
 returns-then-not-reaches c =
-    sym (found_is _ 64 c.loop-o.o (omega arith) (asked (goal.at.returns-then-not-reaches c).After-reaches true (ap not c.if-not-reaches.true)) (none_at _ _ c.loop-o.invariant.1))
+    sym (found_is _ 64 c.loop-o.o (omega arith) (asked (goal.at.returns-then-not-reaches c).After-reaches true (ap not c.if-not-reaches.true)) (none_at _ _ c.loop-o.invariant))
 
 pub loop-o-preserved : goal.loop-o-preserved
 loop-o-preserved c =
-    (omega arith, some_goes _ _ c.loop-o.invariant.1 (asked (goal.at.loop-o-preserved c).After-reaches false (ap not c.if-not-reaches.false)))
+    some_goes _ _ c.loop-o.invariant (asked (goal.at.loop-o-preserved c).After-reaches false (ap not c.if-not-reaches.false))
 
 pub returns : goal.returns
 returns c =
     let x = c.args in
     let all : c.loop-o.o ≡ 64 = omega arith in
-    sym (found_none _ 64 (none_at _ 64 (rw all at c.loop-o.invariant.1)))
+    sym (found_none _ 64 (none_at _ 64 (rw all at c.loop-o.invariant)))

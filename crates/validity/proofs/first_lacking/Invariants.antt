@@ -1,6 +1,5 @@
 -- `validity::first_lacking` meets its contract. The loop's invariant: none of the first o objects has a pair whose area lacks access.
 -- Assumes nothing.
-use Prim.Native.Nat.{◌-◌, ◌≤◌}
 use mathlib.Core.Path.{◌≡◌}
 use mathlib.Core.Bool.{false}
 use Rattle.bits.specs.Rows.{cells_of}
@@ -11,7 +10,4 @@ use Rattle.validity.proofs.first_lacking.Given as goal
 
 abbrev pub invariant-loop-o : goal.invariant-loop-o
 invariant-loop-o l =
-    (l.o ≤ 64) × (some_below l.o (lacking (site l.s) (cells_of l.these) (cells_of l.those)) ≡ false)
-
-abbrev pub decreases-loop-o : goal.decreases-loop-o
-decreases-loop-o l = 64 - l.o
+    some_below l.o (lacking (site l.s) (cells_of l.these) (cells_of l.those)) ≡ false
