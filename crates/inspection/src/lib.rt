@@ -76,6 +76,7 @@ fn objects_fit(s: &State, from: u8, objects: u32, areas: u32) -> bool
     ensures { result ≡ each_below 32 (object_at s.now from objects areas) }
 {
     let mut fits = true;
+    // By number, which picks a row of three relations and a place of the set.
     for k in 0..32u8 {
         fits &= object_fits(
             search::object_of(s, from + k),
@@ -130,10 +131,7 @@ pub fn is_sound(s: &State) -> bool
     ensures equation { result ≡ is_sound (site s.now) }
     ensures meaning { T result ↔ Sound (site s.now) }
 {
-    let State {
-        imports,
-        definitions,
-        ..
-    } = s;
+    // Taken first, since a proof knows from here on the lengths that the type says: a sound record has its shape.
+    let (imports, definitions) = (&s.imports, &s.definitions);
     is_well_formed(s) && are_disjoint(imports, definitions) && validity::is_valid(s)
 }

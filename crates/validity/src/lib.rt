@@ -17,6 +17,7 @@ pub fn first_lacking(s: &State, these: &[u32; 64], those: &[u32; 64]) -> Option<
     ensures { result ≡ found_below 64 (lacking (site s.now) (cells_of these.now) (cells_of those.now)) }
 {
     let transposed = relations::transposed(&s.structure);
+    // By number, which is the answer, and picks a row of five relations.
     for o in 0..64u8 {
         let wanted = bits::union(these[o as usize], those[o as usize]);
         if !search::reaches(search::object_of(s, o), &s.structure, &transposed, wanted) {
