@@ -28,6 +28,11 @@ in_range x u a b = ltb u (limit user) && ltb a (limit area) && fits (rule x).tar
 abbrev pub Decoded : Type 0
 Decoded = Result Instruction Refusal
 
+-- a code that picks no instruction is refused: "code 0 or above 12"
+abbrev pub picked_as : Picked → Decoded
+picked_as None = Err UnknownCode
+picked_as (Some x) = Ok x
+
 -- "a user or area above 31, an object above 63, or b not 0 for codes 1 and 2" is out of range
 abbrev pub ranged_as : Instruction → (u a b : ℕ) → Decoded
 ranged_as x u a b = cond (in_range x u a b) (Ok x) (Err OutOfRange)

@@ -18,8 +18,8 @@ use Rattle.instructions.specs.declared.MustOwn.TheVariants.{OwnsNothing, OwnsA, 
 use Rattle.instructions.specs.declared.Rule.{Rule}
 use Rattle.instructions.specs.declared.Bytes.{Bytes as DeclaredBytes}
 
--- "Four bytes: code, activator (a user), a, b": the struct `Bytes` of the code. Nothing here asks that a number is below
--- 256.
+-- "Four bytes: code, activator (a user), a, b": the struct `Bytes` of the code. Nothing here asks that a number is
+-- below 256.
 abbrev pub Bytes : Type 0
 Bytes = DeclaredBytes
 

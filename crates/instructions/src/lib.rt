@@ -4,7 +4,7 @@
 ghost use Rattle.std.specs.Prelude.{◌≡◌};
 ghost use Rattle.state.specs.Checks.{first_met};
 ghost use Rattle.instructions.specs.Instructions.{rule, instruction_of};
-ghost use Rattle.instructions.specs.Decode.{fits, in_range, decode_of, decoded_number, misfits};
+ghost use Rattle.instructions.specs.Decode.{picked_as, fits, in_range, decode_of, decoded_number, misfits};
 
 use state::State;
 use verdicts::Refusal;
@@ -108,24 +108,28 @@ pub fn rule_of(x: Instruction) -> Rule
     }
 }
 
-// The instruction that a code picks.
-fn picked(code: u8) -> Option<Instruction>
-    ensures { result ≡ instruction_of code }
-{
-    match code {
-        0 | 13..=255 => None,
-        1 => Some(Instruction::ListArea),
-        2 => Some(Instruction::UnlistArea),
-        3 => Some(Instruction::AddOwner),
-        4 => Some(Instruction::RemoveOwner),
-        5 => Some(Instruction::AddStructure),
-        6 => Some(Instruction::RemoveStructure),
-        7 => Some(Instruction::Define),
-        8 => Some(Instruction::RemoveDefinition),
-        9 => Some(Instruction::AddImport),
-        10 => Some(Instruction::RemoveImport),
-        11 => Some(Instruction::AddExport),
-        12 => Some(Instruction::RemoveExport),
+// The instruction that a code picks, if it picks one.
+impl TryFrom<u8> for Instruction {
+    type Error = Refusal;
+
+    ghost try_from_gives = { λ code result. result ≡ picked_as (instruction_of code) };
+
+    fn try_from(code: u8) -> Result<Instruction, Refusal> {
+        match code {
+            0 | 13..=255 => Err(Refusal::UnknownCode),
+            1 => Ok(Instruction::ListArea),
+            2 => Ok(Instruction::UnlistArea),
+            3 => Ok(Instruction::AddOwner),
+            4 => Ok(Instruction::RemoveOwner),
+            5 => Ok(Instruction::AddStructure),
+            6 => Ok(Instruction::RemoveStructure),
+            7 => Ok(Instruction::Define),
+            8 => Ok(Instruction::RemoveDefinition),
+            9 => Ok(Instruction::AddImport),
+            10 => Ok(Instruction::RemoveImport),
+            11 => Ok(Instruction::AddExport),
+            12 => Ok(Instruction::RemoveExport),
+        }
     }
 }
 
@@ -153,7 +157,7 @@ pub fn decode(bytes: Bytes) -> Result<Instruction, Refusal>
     ensures equation { result ≡ decode_of bytes }
     ensures number { decoded_number result ≡ first_met (misfits (decode_of bytes)) }
 {
-    let x = picked(bytes.code).ok_or(Refusal::UnknownCode)?;
+    let x = Instruction::try_from(bytes.code)?;
     if !is_in_range(x, bytes) {
         return Err(Refusal::OutOfRange);
     }

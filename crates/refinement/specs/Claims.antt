@@ -28,8 +28,8 @@ abbrev pub SoundAlike : Type 0
 SoundAlike = (t : Site) → Shaped t → Sound t ↔ Sound (site (record_of t))
 
 -- ---- "every instruction and question gives the same answers on both"
--- What a step gives: the number of its refusal, 0 for none (verdicts, `refusal_number` of its result), and the record that
--- it leaves.
+-- What a step gives: the number of its refusal, 0 for none (verdicts, `refusal_number` of its result), and the record
+-- that it leaves.
 pub record Outcome : Type 0 where
   pub refusal : ℕ
   pub state : State

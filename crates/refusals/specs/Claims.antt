@@ -12,7 +12,8 @@ use Rattle.successors.specs.Successor.{changed}
 use Rattle.refusals.specs.Refusals.{late_checks, refusals, step_numbers}
 use Rattle.refusals.specs.Parts.{result_checks}
 
--- In a sound state the checks 8 to 11 may be made of the state that the instruction would give: `refusals::check` does so.
+-- In a sound state the checks 8 to 11 may be made of the state that the instruction would give: `refusals::check` does
+-- so.
 abbrev pub LateByResult : Type 0
 LateByResult =
     (s : Site) → Sound s → (r : Rule) (u a b : ℕ)

@@ -1,5 +1,5 @@
-// When an instruction that the bytes fit is refused, and why: the early checks, of what was read of the state given, and
-// the late ones, of the state that the instruction would give. The state given is not changed.
+// When an instruction that the bytes fit is refused, and why: the early checks, of what was read of the state given,
+// and the late ones, of the state that the instruction would give. The state given is not changed.
 #![tactic(auto, unfolding(state::specs::Checks::first_met))]
 
 ghost use Rattle.std.specs.Prelude.{◌≡◌, ◌&&◌, not};
@@ -8,7 +8,8 @@ ghost use Rattle.state.specs.Stands.{site};
 ghost use Rattle.access.specs.Lending.{lending};
 ghost use Rattle.access.specs.Answer.{access};
 ghost use Rattle.verdicts.specs.Refusals.{refusal_number};
-ghost use Rattle.refusals.specs.Refusals.{b_listed, missing, entitled, present, absent, own_import, is_entry, early_checks};
+ghost use Rattle.refusals.specs.Refusals.{b_listed, missing, entitled, present, absent, own_import};
+ghost use Rattle.refusals.specs.Refusals.{is_entry, early_checks};
 ghost use Rattle.refusals.specs.Parts.{none_left, still_named, cuts_access, result_checks, found_checks};
 
 use instructions::{Instruction, Lookup, MustOwn, Rule, Target};
