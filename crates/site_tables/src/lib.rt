@@ -11,6 +11,7 @@ ghost use Rattle.site_tables.specs.Tables.{state_by, relations_of};
 use state::State;
 
 // The record whose relations have the pairs of the tables, and whose lists are read off them.
+// The five come together here alone; a struct of them would be made in one place and taken apart in this one.
 pub fn state_of(
     owners: &[u8],
     definitions: &[u8],
