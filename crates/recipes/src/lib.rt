@@ -22,7 +22,8 @@ pub struct Call {
     pub parameters: [u8; 4],
 }
 
-// The refusal, and the place of the instruction that it is of, from 1; 0 where it is of the state or the whole recipe.
+// The refusal, and the place of the instruction that it is of, from 1. Where it is of the state or the whole recipe,
+// the place is 0 and no Option: so it is stated, and so it goes to C.
 #[derive(Clone, Copy)]
 pub struct RecipeRefusal {
     pub refusal: Refusal,

@@ -102,6 +102,7 @@ fn obey_lines(input: &[u8], results: &mut [u8]) -> Ending
     let mut s = State::founding();
     let mut lines = 0;
     let mut rest = input;
+    // How far a line goes is known once it is read, and how many there are is part of the answer: so they are counted.
     while !rest.is_empty() {
         let First { line, size } = lines::first_line(rest);
         results[lines] = obey_line(&mut s, line);
