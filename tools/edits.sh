@@ -2,12 +2,12 @@
 # The must-fail edits by crate and function, with what each gets wrong. An edit begins with a line '# WHAT: SENTENCE'
 # for each fault that it plants, and WHAT is one or more names with ', ' between: a public function of the edit's own
 # crate (machine::step, state::State::empty), or a claim of any crate (claim Demand3). Where the fault is planted in a
-# private function that those call, its name follows in parentheses: '# lines::first_line (extended): SENTENCE'. It
-# fails where a line is not so, where it names what is not there, and where fewer than two faults name a public function
-# of a library. With --check it counts the edits and their faults, and prints no table. With --refused it tries each
-# edit that names a function (tools/try.sh), several side by side, and reads what the prover says: each function that is
-# named must be refused, where an edit plants several faults none of theirs because of another, and none only because
-# its proof file names what the edit took away.
+# private function that those call, its name follows in parentheses: '# lines::first_line (extended): SENTENCE'; of a
+# method as the prover names it: '(TurnedMoves::next)'. It fails where a line is not so, where it names what is not
+# there, and where fewer than two faults name a public function of a library. With --check it counts the edits and their
+# faults, and prints no table. With --refused it tries each edit that names a function (tools/try.sh), several side by
+# side, and reads what the prover says: each function that is named must be refused, where an edit plants several faults
+# none of theirs because of another, and none only because its proof file names what the edit took away.
 set -euo pipefail
 export LC_ALL=C
 cd "$(dirname "$0")/.."
@@ -22,7 +22,7 @@ esac
 
 word='[A-Za-z0-9_]+'
 named="($word(::$word)+|claim $word)"
-form="^# $named(, $named)*( \\($word\\))?: [^ ]"
+form="^# $named(, $named)*( \\($word(::$word)*\\))?: [^ ]"
 edits=0 planted=0 public=0 faults=0
 # The claims of all crates; of the crate at hand the public functions, how many edits each name has, their rows in the
 # table, and the names that are not of a public function.
@@ -68,13 +68,16 @@ said_of() {
 
 # Is the function refused? Where others of the edit have a fault too, not because of one of them.
 check_refused() {
-    local log=$1 edit=$2 name=$3 planted_in=$4 said callee
+    local log=$1 edit=$2 name=$3 planted_in=$4 said callee next
     said=$(said_of "$log" "$name")
     while [[ $said == *'it calls `'* ]]; do
+        # What is passed on beside the call, as a type with a method, has no line of its own.
+        next=
         for callee in $(tr '`' '\n' <<<"$said" | grep ::); do
             [[ $planted_in != *",$callee,"* ]] || fault "$edit: $name is refused because of $callee"
+            [ -z "$(said_of "$log" "$callee")" ] || next=$callee
         done
-        said=$(said_of "$log" "$callee")
+        said=$(said_of "$log" "$next")
     done
     case $said in
     'not proved'* | 'no proof'*)
