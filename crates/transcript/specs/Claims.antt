@@ -11,7 +11,8 @@ use Rattle.transcript.specs.Transcript.{session_text, transcript_of}
 abbrev pub SessionPrinted : Type 0
 SessionPrinted =
     (input : List ℕ) → length input ≤ 65536
-    → transcript_of input ≡ session_text (session_results input) (counts (run founding (instructions_of (lines_of input))))
+    → transcript_of input
+    ≡ session_text (session_results input) (counts (run founding (instructions_of (lines_of input))))
 
 -- "Input above 65,536 bytes yields the line `too long` alone": t, o, o, a space, l, o, n, g, and byte 10
 abbrev pub TooLongPrinted : Type 0

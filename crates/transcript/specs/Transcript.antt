@@ -44,7 +44,8 @@ too_long = 116 ∷ 111 ∷ 111 ∷ space ∷ 108 ∷ 111 ∷ 110 ∷ 103 ∷ new
 
 -- what is printed for the input
 unfoldable pub transcript_of : (input : List ℕ) → List ℕ
-transcript_of input = cond (is_too_long input) too_long (session_text (session_results input) (counts (session_state input)))
+transcript_of input =
+    cond (is_too_long input) too_long (session_text (session_results input) (counts (session_state input)))
 
 -- no transcript has more bytes (Claims, PrintedAtMost): 65,536 lines of at most 9, and a state line of at most 41
 abbrev pub most_printed : ℕ
