@@ -183,6 +183,7 @@ pub fn check(s: &State, x: Instruction, u: u8, a: u8, b: u8) -> Result<(), Refus
 {
     let rule = instructions::rule_of(x);
     check_early(readings::look(s, u, a, b), rule)?;
-    let t = successors::successor(s, x, u, a, b);
+    let mut t = *s;
+    successors::obey(&mut t, x, u, a, b);
     check_late(&t, rule, a, b)
 }

@@ -1,4 +1,4 @@
 -- What a reader of this crate believes: what each instruction changes (Successor).
---     successors::successor    successor
---     successors::next         successor_of
+--     successors::obey, successor    successor
+--     successors::next               successor_of
 pub mod Successor

@@ -50,13 +50,20 @@ fn change(s: &mut State, target: Target, present: bool, u: u8, a: u8, b: u8)
     }
 }
 
-// The state that the instruction would give, whatever the record and the numbers.
+// The record becomes what the instruction makes of it, whatever it holds and whatever the numbers.
+pub fn obey(s: &mut State, x: Instruction, u: u8, a: u8, b: u8)
+    ensures { site s.new ≡ successor (site s.old) x u a b }
+{
+    let rule = instructions::rule_of(x);
+    change(s, rule.target, rule.adds, u, a, b);
+}
+
+// The state that the instruction would give.
 pub fn successor(s: &State, x: Instruction, u: u8, a: u8, b: u8) -> State
     ensures { site result ≡ successor (site s.now) x u a b }
 {
-    let rule = instructions::rule_of(x);
     let mut t = *s;
-    change(&mut t, rule.target, rule.adds, u, a, b);
+    obey(&mut t, x, u, a, b);
     t
 }
 

@@ -49,4 +49,4 @@ returns-in_err-check_early c =
 
 pub returns : goal.returns
 returns c =
-    passed_on _ _ _ _ _ c.look.ensures c.rule_of-rule.ensures c.in_ok-check_early.ensures c.successor-t.ensures c.check_late.ensures
+    passed_on _ _ _ _ _ c.look.ensures c.rule_of-rule.ensures c.in_ok-check_early.ensures c.obey.ensures c.check_late.ensures
