@@ -47,7 +47,8 @@ fn write(bytes: &mut [u8], at: usize, place: u8, present: bool)
     bytes[at] = row as u8;
 }
 
-// Lists the number, or unlists it.
+// Lists the number, or unlists it. That the bytes are a record is a clause here and below: a struct that says so would
+// lend them on in each call, and each clause would still name what they hold.
 fn list(bytes: &mut [u8], kind: Kind, number: u8, present: bool)
     requires { T (is_record bytes.old) × (number < limit (kind_of kind)) }
     ensures { bytes.new ≡ bytes_of (with_listed (state_of bytes.old) (kind_of kind) number present) }
