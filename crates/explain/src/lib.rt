@@ -2,7 +2,6 @@
 #![tactic(auto)]
 
 ghost use Rattle.std.specs.Prelude.{◌≡◌, length};
-ghost use Rattle.verdicts.specs.Refusals.{refusal_number};
 ghost use Rattle.state.specs.Checks.{first_met};
 ghost use Rattle.state.specs.Stands.{site};
 ghost use Rattle.instructions.specs.Decode.{decode_of};
@@ -10,7 +9,8 @@ ghost use Rattle.successors.specs.Successor.{successor_of};
 ghost use Rattle.machine.specs.Step.{step_refusal};
 ghost use Rattle.output.specs.Buffer.{laid};
 ghost use Rattle.reasons.specs.Explanation.{reason_bytes, explain_refusals, explained_by, as_explained};
-ghost use Rattle.reasons.specs.Explanation.{as_explanation, explanation_of, explanation_bytes, explained_buffer};
+ghost use Rattle.reasons.specs.Explanation.{as_explanation, explanation_of, explanation_number, explanation_bytes};
+ghost use Rattle.reasons.specs.Explanation.{explained_buffer};
 ghost use Rattle.reasons.specs.Lost.{first_lost, as_reason, step_reason_of};
 
 use instructions::{Bytes, Target};
@@ -40,9 +40,10 @@ fn put_reason(s: &State, area: u8, object: u8, buffer: &mut [u8]) -> Explained
 // refusals of the access question are decided here as `machine::ask` decides them.
 pub fn explain(s: &State, a: u32, b: u32, buffer: &mut [u8]) -> Result<Explained, Refusal>
     ensures equation { as_explanation result ≡ explanation_of (site s.now) a b buffer.old }
-    ensures number { refusal_number result ≡ first_met (explain_refusals (site s.now) a b buffer.old) }
-    ensures bytes { refusal_number result ≡ 0 → explanation_bytes (as_explanation result)
-        ≡ length (reason_bytes (site s.now) a b) }
+    ensures number { explanation_number (as_explanation result)
+        ≡ first_met (explain_refusals (site s.now) a b buffer.old) }
+    ensures bytes { explanation_number (as_explanation result) ≡ 0
+        → explanation_bytes (as_explanation result) ≡ length (reason_bytes (site s.now) a b) }
     ensures buffer { buffer.new ≡ explained_buffer (site s.now) a b buffer.old }
 {
     if buffer.len() < ROOM {
@@ -71,7 +72,8 @@ fn lost_by(s: &State, bytes: Bytes) -> Option<Lost>
     let Ok(x) = instructions::decode(bytes) else {
         return None;
     };
-    let left = successors::successor(s, x, bytes.activator, bytes.a, bytes.b);
+    let mut left = *s;
+    successors::obey(&mut left, x, bytes.activator, bytes.a, bytes.b);
     let rule = instructions::rule_of(x);
     match rule.target {
         Target::Structure => lost_pairs::first_lost(&left),

@@ -18,7 +18,9 @@ use Rattle.soundness.specs.Tests.{is_sound}
 use Rattle.machine.specs.Step.{question_refusals}
 use Rattle.output.specs.Buffer.{laid}
 use Rattle.output.proofs.Buffer.{laid_front}
-use Rattle.reasons.specs.Explanation.{Explanation, Unexplained, reason_bytes, explain_refusals, explain_refusal, which, explanation_of, explanation_bytes, explained_buffer}
+use Rattle.reasons.specs.Explanation.{Explanation, Unexplained, reason_bytes, explain_refusals, explain_refusal, which, explanation_of, explanation_number, explanation_bytes, explained_buffer, as_explained}
+use Rattle.reasons.specs.declared.Explained.{Explained}
+use Rattle.reasons.specs.declared.Explained.TheVariants.{Chain, Counts}
 use Rattle.reasons.proofs.Laws.{refused_so, explained_so, reason_fits}
 use Rattle.explain.proofs.explain.Goals as goal
 use Rattle.explain.proofs.explain.Goals.{After-are_listed, Else-not-is_sound, Then-not-is_sound}
@@ -58,6 +60,10 @@ module _ (s : Site) (a b : ℕ) (buffer : List ℕ) where
           g ∙ laid_front (reason_bytes s a b) buffer fits ∙ sym so.1,
         )
 
+unrefused : (explained : Explained) → explanation_number (as_explained explained) ≡ 0
+unrefused (Chain count) = refl
+unrefused (Counts count) = refl
+
 -- ---- what is known on the way
 unsound : (c : Then-not-is_sound) → not (is_sound (site c.args.s.now)) ≡ true
 unsound c = sym (ap not c.is_sound.ensures.equation) ∙ (ap not c.if-not-is_sound.true)
@@ -96,4 +102,4 @@ returns c =
     let p = answering (site c.args.s.now) _ _ _ c.if-buffer-lt-ROOM.false
     (passed _ _ (sound (goal.at.returns c).Else-not-is_sound) ∙ passed _ _ (ap not c.if-not-a-b.false) ∙ passed _ _ (unlisted (goal.at.returns c).After-are_listed false (ap not c.if-not-are_listed.false)) ∙ none_met)
     _ _ c.put_reason.ensures.equation c.put_reason.ensures.buffer in
-    record { equation = p.0; number = p.1; bytes = p.2; buffer = p.3 }
+    record { equation = p.0; number = unrefused _ ∙ p.1; bytes = λ z. p.2 refl; buffer = p.3 }

@@ -49,6 +49,6 @@ returns-in_default c =
 
 pub returns-in_default-target : goal.returns-in_default-target
 returns-in_default-target c =
-    c.first_lost_of.ensures ∙ ap (λ (t : Site). lost_of t c.args.bytes.b) c.successor-left.ensures
+    c.first_lost_of.ensures ∙ ap (λ (t : Site). lost_of t c.args.bytes.b) c.obey.ensures
     ∙ of_object_b (site c.args.s.now) c.args.bytes _ (sym c.decode.ensures.equation ∙ c.in-Ok.is) c.requires
     (λ e. c.in_default-target.not-Structure (ap (λ (r : Rule). r.target) c.rule_of-rule.ensures ∙ e))
