@@ -6,6 +6,13 @@ ghost use Rattle.state.specs.Checks.{first_met};
 ghost use Rattle.instructions.specs.Instructions.{rule, instruction_of};
 ghost use Rattle.instructions.specs.Decode.{picked_as, fits, in_range, decode_of, decoded_number, misfits};
 
+use Instruction::{
+    AddExport, AddImport, AddOwner, AddStructure, Define, ListArea, RemoveDefinition, RemoveExport,
+    RemoveImport, RemoveOwner, RemoveStructure, UnlistArea,
+};
+use Lookup::{Both, NoLookup, OnlyA};
+use MustOwn::{OwnsA, OwnsBoth, OwnsNothing, OwnsToCut};
+use Target::{Definition, Export, Import, Owner, Structure, TheArea};
 use state::State;
 use verdicts::Refusal;
 
@@ -77,28 +84,18 @@ pub fn rule_of(x: Instruction) -> Rule
     ensures { result ≡ rule x }
 {
     let (adds, target, lookup, ownership) = match x {
-        Instruction::ListArea => (
-            true,
-            Target::TheArea,
-            Lookup::NoLookup,
-            MustOwn::OwnsNothing,
-        ),
-        Instruction::UnlistArea => (false, Target::TheArea, Lookup::OnlyA, MustOwn::OwnsA),
-        Instruction::AddOwner => (true, Target::Owner, Lookup::OnlyA, MustOwn::OwnsA),
-        Instruction::RemoveOwner => (false, Target::Owner, Lookup::Both, MustOwn::OwnsA),
-        Instruction::AddStructure => (true, Target::Structure, Lookup::Both, MustOwn::OwnsBoth),
-        Instruction::RemoveStructure => (
-            false,
-            Target::Structure,
-            Lookup::Both,
-            MustOwn::OwnsToCut,
-        ),
-        Instruction::Define => (true, Target::Definition, Lookup::OnlyA, MustOwn::OwnsA),
-        Instruction::RemoveDefinition => (false, Target::Definition, Lookup::Both, MustOwn::OwnsA),
-        Instruction::AddImport => (true, Target::Import, Lookup::Both, MustOwn::OwnsA),
-        Instruction::RemoveImport => (false, Target::Import, Lookup::Both, MustOwn::OwnsA),
-        Instruction::AddExport => (true, Target::Export, Lookup::Both, MustOwn::OwnsA),
-        Instruction::RemoveExport => (false, Target::Export, Lookup::Both, MustOwn::OwnsA),
+        ListArea => (true, TheArea, NoLookup, OwnsNothing),
+        UnlistArea => (false, TheArea, OnlyA, OwnsA),
+        AddOwner => (true, Owner, OnlyA, OwnsA),
+        RemoveOwner => (false, Owner, Both, OwnsA),
+        AddStructure => (true, Structure, Both, OwnsBoth),
+        RemoveStructure => (false, Structure, Both, OwnsToCut),
+        Define => (true, Definition, OnlyA, OwnsA),
+        RemoveDefinition => (false, Definition, Both, OwnsA),
+        AddImport => (true, Import, Both, OwnsA),
+        RemoveImport => (false, Import, Both, OwnsA),
+        AddExport => (true, Export, Both, OwnsA),
+        RemoveExport => (false, Export, Both, OwnsA),
     };
     Rule {
         adds,
@@ -117,18 +114,18 @@ impl TryFrom<u8> for Instruction {
     fn try_from(code: u8) -> Result<Instruction, Refusal> {
         match code {
             0 | 13..=255 => Err(Refusal::UnknownCode),
-            1 => Ok(Instruction::ListArea),
-            2 => Ok(Instruction::UnlistArea),
-            3 => Ok(Instruction::AddOwner),
-            4 => Ok(Instruction::RemoveOwner),
-            5 => Ok(Instruction::AddStructure),
-            6 => Ok(Instruction::RemoveStructure),
-            7 => Ok(Instruction::Define),
-            8 => Ok(Instruction::RemoveDefinition),
-            9 => Ok(Instruction::AddImport),
-            10 => Ok(Instruction::RemoveImport),
-            11 => Ok(Instruction::AddExport),
-            12 => Ok(Instruction::RemoveExport),
+            1 => Ok(ListArea),
+            2 => Ok(UnlistArea),
+            3 => Ok(AddOwner),
+            4 => Ok(RemoveOwner),
+            5 => Ok(AddStructure),
+            6 => Ok(RemoveStructure),
+            7 => Ok(Define),
+            8 => Ok(RemoveDefinition),
+            9 => Ok(AddImport),
+            10 => Ok(RemoveImport),
+            11 => Ok(AddExport),
+            12 => Ok(RemoveExport),
         }
     }
 }
@@ -138,10 +135,10 @@ fn is_fit(target: Target, b: u8) -> bool
     ensures { result ≡ fits target b }
 {
     match target {
-        Target::TheArea => b == 0,
-        Target::Owner => b < State::USERS,
-        Target::Structure => b < State::AREAS,
-        Target::Definition | Target::Import | Target::Export => b < State::OBJECTS,
+        TheArea => b == 0,
+        Owner => b < State::USERS,
+        Structure => b < State::AREAS,
+        Definition | Import | Export => b < State::OBJECTS,
     }
 }
 
