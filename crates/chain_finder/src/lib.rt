@@ -15,6 +15,7 @@ use search::Object;
 use state::State;
 
 // The count of an area without access.
+// It is a number and no Option: these counts go into the caller's buffer as they are.
 pub const UNREACHED: u8 = 255;
 
 // ---- the counts
@@ -36,6 +37,7 @@ fn counts_of(o: Object, structure: &[u32; 32]) -> [u8; 32]
     count_as(&mut counts, o.defined, 0);
     let mut layer = o.defined;
     let mut reached = o.defined;
+    // By number, which is the count: what is new after step n has n + 1.
     for n in 0..search::LONGEST {
         let near = search::next_alone(layer, structure, o.imported, o.exported);
         let new = bits::difference(near, reached);
@@ -76,6 +78,7 @@ fn put_walk<'a>(
 {
     let mut end: usize = 0;
     let mut at_hand = o.defined;
+    // By the number of steps that are left, as `walk` is, which is also that of the row.
     for left in (1..n + 1).rev() {
         let open = bits::intersection(at_hand, rows[left]);
         let next = bits::lowest(open);
@@ -89,12 +92,14 @@ fn put_walk<'a>(
 // Writes the first chain of the object to the area, and answers how many areas it has: 0 without access, and then
 // nothing is written. The areas from which one step more leads to the area are found backwards: a step is gone back by
 // a step with imports and exports exchanged. Where there are none, there are none for more steps. The loop counts the
-// steps, n, which also says where their row is kept.
+// steps, n, which also says where their row is kept. The answer is a length, so it is 0 and no Option where there is
+// no chain.
 pub fn put_chain(s: &State, area: u8, object: u8, out: &mut [u8]) -> usize
     ensures place { result ≡ length (first_chain (lending (site s.now) object) area) }
     ensures buffer { out.new ≡ laid (first_chain (lending (site s.now) object) area) 0 out.old }
 {
     let o = search::object_of(s, object);
+    // A row for each number of steps; nothing here asks for memory.
     let mut rows = [0u32; 9];
     let mut row = bits::with_bit(0, area, true);
     for n in 0..9usize {

@@ -112,6 +112,7 @@ impl TryFrom<u8> for Instruction {
     ghost try_from_gives = { λ code result. result ≡ picked_as (instruction_of code) };
 
     fn try_from(code: u8) -> Result<Instruction, Refusal> {
+        // A row for each code, and a range for the others, as document 01 has it.
         match code {
             0 | 13..=255 => Err(Refusal::UnknownCode),
             1 => Ok(ListArea),

@@ -22,6 +22,7 @@ pub fn label_place(file: &[u8], area: u32) -> Option<Place>
     let block = block_place(file)?;
     let table = site_format::part(file, Table::Labels);
     let k = label_tables::index_of(table, area)?;
+    // The entry's place is reckoned, since the answer is a place in the file.
     let at = (block.at as usize + (k * label_tables::LABEL_SIZE + label_tables::TEXT_AT)) as u16;
     let length = table[k * label_tables::LABEL_SIZE + label_tables::LENGTH_AT] as u16;
     Some(Place { at, length })

@@ -49,7 +49,8 @@ fn extended(n: u8, byte: u8) -> Option<u8>
     if n == 0 { None } else { with_digit(n, byte) }
 }
 
-// The number 0 to 255 that the word stands for.
+// The number 0 to 255 that the word stands for. It is read by digits and not by `parse`, which takes a sign and leading
+// zeros.
 fn number(word: &[u8]) -> Option<u8>
     ensures { result ≡ word_number word.now }
 {

@@ -38,6 +38,7 @@ pub fn put_decimal(out: &mut [u8], at: usize, n: usize) -> usize
     ensures place { result ≡ place_behind at (decimal n) }
     ensures buffer { out.new ≡ laid (decimal n) at out.old }
 {
+    // By hand: each byte is counted and laid as the promise says, in a buffer of any length.
     if n < 10 {
         return put(out, at, 48 + n as u8);
     }

@@ -72,7 +72,9 @@ fn turned(rows: &mut [u32], at: u8, row: u32, first: u8) -> u32
 }
 
 // Puts each pair of the table into the relation. In an ascending table the pairs of a row stand side by side, so the
-// row is at hand while they come.
+// row is at hand while they come. It is called and not laid into its caller: for five tables in one function the
+// registers would not do.
+#[inline(never)]
 pub fn fill(rows: &mut [u32], table: &[u8])
     ensures { cells_of rows.new ≡ with_pairs table.now (cells_of rows.old) }
 {

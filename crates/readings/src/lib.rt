@@ -34,7 +34,8 @@ pub struct Seen {
     pub exported: bool,
 }
 
-// What those checks read: all of it at once, whatever the instruction.
+// What those checks read: all of it at once, whatever the instruction. The numbers are no Bytes: the code is not looked
+// at.
 pub fn look(s: &State, u: u8, a: u8, b: u8) -> Seen
     ensures { result ≡ seen_of (site s.now) u a b }
 {

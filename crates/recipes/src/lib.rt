@@ -44,6 +44,7 @@ fn byte_at(bytes: &[u8], place: usize) -> u8
 fn operand(parameters: &[u8], kind: u8, value: u8) -> u8
     ensures { result ≡ operand parameters.now kind value }
 {
+    // The kind is a byte of any value: an enum would need a decoder beside the test for 14.
     if kind == 1 {
         byte_at(parameters, usize::from(value))
     } else {

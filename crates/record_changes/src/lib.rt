@@ -91,7 +91,8 @@ fn remove_owner(bytes: &mut [u8], user: u8, area: u8)
     }
 }
 
-// Adds or removes what the table says of a, b and the activator.
+// Adds or removes what the table says of a, b and the activator. The cases are those of `successors::change`, which
+// asks nothing of its numbers and writes to a State: so there are two.
 fn set_target(bytes: &mut [u8], rule: Rule, four: Bytes)
     requires { T (is_record bytes.old) × (four.activator < 32) × (four.a < 32) × T (fits rule.target four.b) }
     ensures { bytes.new ≡ bytes_of (changed (state_of bytes.old) rule.target rule.adds four.activator four.a four.b) }

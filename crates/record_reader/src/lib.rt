@@ -15,6 +15,7 @@ fn rows<const N: usize>(bytes: &[u8], at: usize) -> [u32; N]
 {
     let mut read = [0u32; N];
     for (i, row) in read.iter_mut().enumerate() {
+        // By the place of each byte: an array of four is made of single bytes either way.
         let k = at + i * 4;
         *row = u32::from_le_bytes([bytes[k], bytes[k + 1], bytes[k + 2], bytes[k + 3]]);
     }

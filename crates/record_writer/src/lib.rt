@@ -16,6 +16,7 @@ fn write_rows<'a>(bytes: &'a mut [u8], at: usize, rows: &'a [u32])
     ensures { bytes.new ≡ laid bytes.old at rows.now }
 {
     for (i, row) in rows.iter().enumerate() {
+        // By the place of each row: behind a walk by `chunks_exact_mut` a proof knows no element.
         let k = at + i * 4;
         bytes[k..k + 4].copy_from_slice(&row.to_le_bytes());
     }

@@ -177,7 +177,8 @@ fn check_late(t: &State, rule: Rule, a: u8, b: u8) -> Result<(), Refusal>
     Ok(())
 }
 
-// Why an instruction is refused, by what is read of the state and by what it would lead to.
+// Why an instruction is refused, by what is read of the state and by what it would lead to. The numbers are no Bytes,
+// as in `successors::obey`.
 pub fn check(s: &State, x: Instruction, u: u8, a: u8, b: u8) -> Result<(), Refusal>
     ensures { refusal_number result ≡ first_met (found_checks (site s.now) x u a b) }
 {

@@ -36,6 +36,7 @@ fn write(rows: &mut [u32], at: usize, place: u8, present: bool)
     ensures { rows.new ≡ set rows.old at (with_bit (get_or rows.old at 0) place
         present) }
 {
+    // By index and not by `get_mut`, after which a proof knows the length alone of what was lent.
     if at < rows.len() {
         let row = bits::with_bit(rows[at], place, present);
         rows[at] = row;

@@ -85,6 +85,7 @@ impl<'a> Moves for Alone<'a> {
 }
 
 // One step of an object by itself: the rows of those that import it are looked at.
+// The two rows and no Object: a step back is one with imports and exports exchanged.
 #[tactic(auto, using(crate::proofs::OneStep::next_is))]
 pub fn next_alone(layer: u32, structure: &[u32; 32], imported: u32, exported: u32) -> u32
     ensures { result ≡ next_to (move_by (cells_of structure.now) (transpose (cells_of structure.now))
@@ -101,6 +102,7 @@ fn least_steps<M: Moves>(moves: &M, defined: u32, wanted: u32) -> Option<u8>
 {
     let mut layer = defined;
     let mut reached = defined;
+    // By number, which is the answer.
     for n in 0..LONGEST {
         if bits::is_subset(wanted, reached) {
             return Some(n);

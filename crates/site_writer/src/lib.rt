@@ -117,8 +117,7 @@ fn put_field(out: &mut [u8], at: usize, field: u16) -> usize
     ensures place { result ≡ place_behind at (field_bytes (field ∷ [])) }
     ensures buffer { out.new ≡ laid (field_bytes (field ∷ [])) at out.old }
 {
-    let behind_low = output::put(out, at, (field % 256) as u8);
-    output::put(out, behind_low, (field / 256) as u8)
+    output::put_text(out, at, &field.to_le_bytes())
 }
 
 // Writes one field behind the other.

@@ -50,7 +50,8 @@ fn change(s: &mut State, target: Target, present: bool, u: u8, a: u8, b: u8)
     }
 }
 
-// The record becomes what the instruction makes of it, whatever it holds and whatever the numbers.
+// The record becomes what the instruction makes of it, whatever it holds and whatever the numbers. They are u, a and b
+// and no Bytes: the code would come with them, beside the instruction that it picked.
 pub fn obey(s: &mut State, x: Instruction, u: u8, a: u8, b: u8)
     ensures { site s.new ≡ successor (site s.old) x u a b }
 {

@@ -81,7 +81,8 @@ fn put_session(out: &mut [u8], results: &[u8], counts: &[usize]) -> usize
     put_state(out, behind_lines, counts)
 }
 
-// Obeys a line, and answers its result: 0, or the number of the refusal.
+// Obeys a line, and answers its result: 0, or the number of the refusal. It is a byte and no Result, since a result is
+// kept and printed as one.
 fn obey_line(s: &mut State, line: Option<Bytes>) -> u8
     ensures { verdict result (site s.new) ≡ obeyed (site s.old) line }
 {
@@ -135,6 +136,7 @@ pub fn write(input: &[u8], output: &mut [u8]) -> Result<usize, Refusal>
     if MOST_READ < input.len() {
         return output::write_text(b"too long\n", output);
     }
+    // As many results as an input can have lines; nothing here asks for memory.
     let mut results = [0u8; MOST_READ];
     let ending = obey_lines(input, &mut results);
     let counts = counts::counts(&ending.state);
