@@ -66,11 +66,12 @@ said_of() {
     sed -n "s/^fn $2: //p" "$1" 2>/dev/null | head -n 1 || true
 }
 
-# Is the function refused? Where others of the edit have a fault too, not because of one of them.
+# Is the function refused? Where others of the edit have a fault too, not because of one of them alone: what is not
+# proved of the function itself, the prover says in front of what it calls.
 check_refused() {
     local log=$1 edit=$2 name=$3 planted_in=$4 said callee next
     said=$(said_of "$log" "$name")
-    while [[ $said == *'it calls `'* ]]; do
+    while [[ $said == 'no proof: it calls `'* ]]; do
         # What is passed on beside the call, as a type with a method, has no line of its own.
         next=
         for callee in $(tr '`' '\n' <<<"$said" | grep ::); do
