@@ -1,9 +1,9 @@
 #!/usr/bin/env bash
 # Sees that each claim has a proof of that very type. A claim is a name that a file of a crate's specs/ states by
-# 'abbrev pub NAME : Type 0' or 'unfoldable pub NAME : Type 0', but for names of lists, of what may be missing or
-# refused, and of a struct of the code (`Declared` and its name), which are types of data. Its proof is a line 'pub
-# some-name : NAME' with a definition of some-name behind it, in a file that the proofs/Lib.antt of the same crate
-# declares, where NAME stands alone and is that of the crate's own specs/. It fails with the claims that have none.
+# 'abbrev pub NAME : Type 0' or 'unfoldable pub NAME : Type 0', but for names of lists, and for Answer, Bytes, Decoded,
+# Line and Picked, which are types of data. Its proof is a line 'pub some-name : NAME' with a definition of some-name
+# behind it, in a file that the proofs/Lib.antt of the same crate declares, where NAME stands alone and is that of the
+# crate's own specs/. It fails with the claims that have none.
 set -euo pipefail
 export LC_ALL=C
 cd "$(dirname "$0")/.."
@@ -49,7 +49,8 @@ judge_claims() {
         }
 
         FNR == 1 { begin_file() }
-        in_specs && $1 == stated && $2 == "=" && $3 ~ /^(List|Option|Result|Declared[A-Z].*)$/ { claims-- }
+        in_specs && $1 == stated && $2 == "=" && $3 == "List" { claims-- }
+        in_specs && $1 == stated && $2 == "=" && stated ~ /^(Answer|Bytes|Decoded|Line|Picked)$/ { claims-- }
         in_specs { stated = "" }
         in_specs && /^(abbrev|unfoldable) pub [A-Z][^ ]* : Type 0$/ {
             stated = $3
