@@ -205,9 +205,9 @@ pub extern "C" fn panelrights_read_file<'a>(file: &'a [u8], state: &'a mut [u8])
 {
     match site_file::read(file) {
         Ok(s) => number_of(record_writer::write(&s, state)),
-        Err(refusal) => {
-            let written = record_writer::write(&State::founding(), state);
-            number_of(written.and(Err(refusal)))
+        Err(refused) => {
+            let written = record_writer::write(&refused.state, state);
+            number_of(written.and(Err(refused.refusal)))
         }
     }
 }

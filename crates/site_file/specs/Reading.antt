@@ -1,8 +1,8 @@
 -- The refusals of a site file in the paper's order, and what an accepted file holds (document 01, 'The site file'; a
 -- part of 29 is of document 02, point 4).
 use Rattle.std.specs.Prelude.{ℕ, Bool, true, ◌&&◌, ◌||◌, not, cond, List, [], ◌∷◌, ◌++◌, eqb, Result, Ok, Err}
-use Rattle.verdicts.specs.Refusals.{refusal_number}
-use Rattle.verdicts.specs.declared.Refusal.{Refusal}
+use Rattle.verdicts.specs.Refusals.{number}
+use Rattle.site_file.specs.declared.ReadRefused.{ReadRefused}
 use Rattle.state.specs.declared.State.{State}
 use Rattle.state.specs.Stands.{site}
 use Rattle.state.specs.Checks.{Check, ◌when◌, first_met}
@@ -76,11 +76,16 @@ unfoldable pub read_of : (file : List ℕ) → Verdict
 read_of file = verdict (file_refusal file) (cond (eqb (file_refusal file) 0) (state_in file) founding)
 
 -- ---- what the code answers
--- the state that was read; "the state beside a refusal is F"
-abbrev pub as_state : Result State Refusal → Site
+-- the state that was read, or the one beside the refusal
+abbrev pub as_state : Result State ReadRefused → Site
 as_state (Ok s) = site s
-as_state (Err refusal) = founding
+as_state (Err refused) = site refused.state
 
--- with the number beside it
-abbrev pub as_verdict : Result State Refusal → Verdict
-as_verdict result = verdict (refusal_number result) (as_state result)
+-- the number of the refusal, 0 for a file that is accepted
+abbrev pub as_number : Result State ReadRefused → ℕ
+as_number (Ok s) = 0
+as_number (Err refused) = number refused.refusal
+
+-- number and state
+abbrev pub as_verdict : Result State ReadRefused → Verdict
+as_verdict result = verdict (as_number result) (as_state result)

@@ -1,19 +1,26 @@
-// Site files: any bytes get a sound state or a refusal.
+// Site files: any bytes get a sound state, or a refusal and the founding state.
 #![tactic(auto)]
 
 ghost use Rattle.std.specs.Prelude.{◌≡◌};
 ghost use Rattle.state.specs.Checks.{first_met};
-ghost use Rattle.state.specs.Site.{limit, first_kind};
+ghost use Rattle.state.specs.Site.{limit, first_kind, founding, verdict};
 ghost use Rattle.state.specs.Stands.{site, relation_of};
 ghost use Rattle.soundness.specs.Sound.{Sound};
 ghost use Rattle.site_format.specs.Format.{held, labels, part, content_fits, content_ascends};
 ghost use Rattle.site_file.specs.Reading.{tables_fit, tables_ascend, state_in, state_checks, as_state};
 ghost use Rattle.site_file.specs.Reading.{as_verdict, read_of};
-ghost use Rattle.verdicts.specs.Refusals.{refusal_number};
+ghost use Rattle.verdicts.specs.Refusals.{number, refusal_number};
 
 use site_format::Table;
 use state::{Relation, State};
 use verdicts::Refusal;
+
+// Why a file is refused, and the state beside the refusal: the founding state.
+#[derive(Clone, Copy)]
+pub struct ReadRefused {
+    pub refusal: Refusal,
+    pub state: State,
+}
 
 // The limit of the first number of a relation's pairs.
 fn first_limit(relation: Relation) -> u8
@@ -93,22 +100,39 @@ fn check_state(s: &State, file: &[u8]) -> Result<(), Refusal>
     Ok(())
 }
 
-// The state that a file of any bytes holds, or its refusal.
-pub fn read(file: &[u8]) -> Result<State, Refusal>
+// The reading of a file that is refused. It is called: laid into the reader, it would make the founding state before
+// the first test, for each file.
+#[cold]
+#[inline(never)]
+fn refused(refusal: Refusal) -> Result<State, ReadRefused>
+    ensures { as_verdict result ≡ verdict (number refusal) founding }
+{
+    Err(ReadRefused {
+        refusal,
+        state: State::founding(),
+    })
+}
+
+// The state that a file of any bytes holds, or its refusal with the founding state.
+pub fn read(file: &[u8]) -> Result<State, ReadRefused>
     ensures equation { as_verdict result ≡ read_of file.now }
     ensures sound { Sound (as_state result) }
 {
-    site_header::check(file)?;
+    if let Err(refusal) = site_header::check(file) {
+        return refused(refusal);
+    }
     let in_range = tables_fit(file);
     let ascending = tables_ascend(file);
     // The lower number is given where both apply.
     if !in_range {
-        return Err(Refusal::FileRange);
+        return refused(Refusal::FileRange);
     }
     if !ascending {
-        return Err(Refusal::FileOrder);
+        return refused(Refusal::FileOrder);
     }
     let s = state_in(file);
-    check_state(&s, file)?;
+    if let Err(refusal) = check_state(&s, file) {
+        return refused(refusal);
+    }
     Ok(s)
 }

@@ -53,7 +53,7 @@ returns-in-Err c =
     let w = c.write-written.ensures in
     record {
       number =
-          c.number_of-in-Err.ensures ∙ ap refusal_number c.and.ensures ∙ first_of_both c.args.state.now c.write-written.result c.in-Err.refusal w.number
+          c.number_of-in-Err.ensures ∙ ap refusal_number c.and.ensures ∙ first_of_both c.args.state.now c.write-written.result c.in-Err.refused.refusal w.number
           ∙ numbered _ _ e;
-      buffer = kept _ _ e (w.bytes ∙ ap (stored c.args.state.now) c.founding.ensures);
+      buffer = kept _ _ e w.bytes;
     }

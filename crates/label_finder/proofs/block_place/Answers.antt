@@ -10,11 +10,11 @@ use borrow.Author.Tests.{eqb-true, ne_eqb}
 use lib.Dec.{eqb}
 use Rattle.verdicts.proofs.Laws.{never_zero}
 use Rattle.verdicts.specs.Refusals.{number}
-use Rattle.verdicts.specs.declared.Refusal.{Refusal}
 use Rattle.state.specs.Site.{Verdict}
 use Rattle.state.specs.declared.State.{State}
 use Rattle.site_format.specs.Format.{labels, Layout, offset_in, size_in}
 use Rattle.site_format.proofs.Tables.{field_by, size_by}
+use Rattle.site_file.specs.declared.ReadRefused.{ReadRefused}
 use Rattle.site_file.specs.Reading.{file_refusal, read_of, as_verdict}
 use Rattle.label_finder.specs.Finder.{block_at, block_length, block_place, found_block}
 use Rattle.label_finder.proofs.Laws.{block_found, block_small}
@@ -27,11 +27,11 @@ module _ (file : List ℕ) where
   unfolding read_of
   refusal_so e = ap (λ (v : Verdict). v.refusal) e
 
-  accepted : (result : Result State Refusal) → as_verdict result ≡ read_of file → is_ok result ≡ eqb (file_refusal file) 0
+  accepted : (result : Result State ReadRefused) → as_verdict result ≡ read_of file → is_ok result ≡ eqb (file_refusal file) 0
   accepted (Ok s) e = ap (λ (n : ℕ). eqb n 0) (refusal_so e)
-  accepted (Err r) e = sym (ne_eqb (number r) 0 (never_zero r)) ∙ ap (λ (n : ℕ). eqb n 0) (refusal_so e)
+  accepted (Err r) e = sym (ne_eqb (number r.refusal) 0 (never_zero r.refusal)) ∙ ap (λ (n : ℕ). eqb n 0) (refusal_so e)
 
-  module _ (result : Result State Refusal) (e : as_verdict result ≡ read_of file) where
+  module _ (result : Result State ReadRefused) (e : as_verdict result ≡ read_of file) where
     answer : (ok : Bool) → is_ok result ≡ ok → cond ok (Some (block_place file)) None ≡ found_block file
     answer ok t = ap (λ (b : Bool). cond b (Some (block_place file)) None) (sym t ∙ accepted result e)
 

@@ -1,13 +1,12 @@
 -- `site_file::read` meets its contract: the header's refusal, then 26 and 27, then those of the state; the first that
 -- is met decides.
 -- Assumes nothing.
-use Rattle.std.proofs.Common.{ℕ, Result, Ok, Err}
-use mathlib.Core.Path.{◌≡◌, refl, sym, ap, ap₂, subst, ◌∙◌}
+use Rattle.std.proofs.Common.{ℕ, Result, Ok}
+use mathlib.Core.Path.{◌≡◌, sym, ap, ap₂, subst, ◌∙◌}
 use mathlib.Core.Bool.{Bool, true, not, cond}
 use mathlib.Core.List.{List, ◌∷◌, ◌++◌}
 use borrow.Author.Tests.{ne_eqb}
 use lib.Dec.{eqb}
-use Rattle.std.proofs.lemmas.Result.{err_from_is_err_and}
 use Rattle.verdicts.proofs.Laws.{never_zero}
 use Rattle.verdicts.specs.Refusals.{number}
 use Rattle.verdicts.specs.declared.Refusal.{Refusal}
@@ -20,28 +19,29 @@ use Rattle.state.proofs.Checks.{met, passed, first_of_two}
 use Rattle.soundness.specs.Sound.{Sound}
 use Rattle.site_format.specs.Format.{labels, part}
 use Rattle.site_header.specs.Header.{header_checks}
+use Rattle.site_file.specs.declared.ReadRefused.{ReadRefused}
 use Rattle.site_file.specs.Reading.{tables_fit, tables_ascend, state_in, table_checks, state_checks, file_refusal, read_of, as_state, as_verdict}
 use Rattle.site_file.proofs.Laws.{read_sound}
 use Rattle.site_file.proofs.read.Goals as goal
 use Rattle.site_file.proofs.read.Goals.{Else-not-in_range}
 
 -- the two promises
-pub record Promised (file : List ℕ) (result : Result State Refusal) : Type 0 where
+pub record Promised (file : List ℕ) (result : Result State ReadRefused) : Type 0 where
   pub equation : as_verdict result ≡ read_of file
   pub sound : Sound (as_state result)
 
 module _ (file : List ℕ) where
   -- both from the first
-  promised : (result : Result State Refusal) → as_verdict result ≡ read_of file → Promised file result
+  promised : (result : Result State ReadRefused) → as_verdict result ≡ read_of file → Promised file result
   promised result e =
       record { equation = e; sound = subst (λ (v : Verdict). Sound v.state) (sym e) (read_sound file) }
 
   -- a reading with a refusal, and one without
-  refusing : (result : Result State Refusal) (r : Refusal) → result ≡ Err r → number r ≡ file_refusal file → Promised file result
+  refusing : (result : Result State ReadRefused) (r : Refusal) → as_verdict result ≡ verdict (number r) founding → number r ≡ file_refusal file → Promised file result
   unfolding read_of
   refusing result r e m =
       let some = sym (ne_eqb (number r) 0 (never_zero r)) ∙ ap (λ (k : ℕ). eqb k 0) m in
-      promised result (ap as_verdict e ∙ ap₂ verdict m (ap (λ (b : Bool). cond b (state_in file) founding) some))
+      promised result (e ∙ ap₂ verdict m (ap (λ (b : Bool). cond b (state_in file) founding) some))
 
   accepting : (s : State) → site s ≡ state_in file → 0 ≡ file_refusal file → Promised file (Ok s)
   unfolding read_of
@@ -84,41 +84,39 @@ module _ (file : List ℕ) where
 ranged : (c : Else-not-in_range)
     → file_refusal c.args.file.now ≡ first_met ((27 when not (tables_ascend c.args.file.now)) ∷ of_state c.args.file.now)
 ranged c =
-    fitting _ (behind_header _ c.in_ok-check.ensures) c.tables_fit-in_range.ensures c.if-not-in_range.false
+    fitting _ (behind_header _ c.in_default.ensures) c.tables_fit-in_range.ensures c.if-not-in_range.false
 
-pub returns-in_err-check : goal.returns-in_err-check
-returns-in_err-check c =
-    let p = err_from_is_err_and c.from_residual.result c.from_residual.ensures.1 in
-    let q = refusing c.args.file.now _ p.0 p.1 (ap number p.2 ∙ in_header _ _ c.in_err-check.ensures) in
+pub returns-in-Err : goal.returns-in-Err
+returns-in-Err c =
+    let q = refusing _ _ _ c.refused.ensures (in_header _ _ c.in-Err.ensures) in
     record { equation = q.equation; sound = q.sound }
 
 pub returns-then-not-in_range : goal.returns-then-not-in_range
 returns-then-not-in_range c =
-    let headed = behind_header _ c.in_ok-check.ensures in
+    let headed = behind_header _ c.in_default.ensures in
     let number = headed ∙ met _ _ (ap not (sym c.tables_fit-in_range.ensures ∙ c.if-not-in_range.true)) in
-    let q = refusing c.args.file.now _ FileRange refl (sym number) in
+    let q = refusing _ _ FileRange c.refused-then-not-in_range.ensures (sym number) in
     record { equation = q.equation; sound = q.sound }
 
 pub returns-then-not-ascending : goal.returns-then-not-ascending
 returns-then-not-ascending c =
     let past = ranged (goal.at.returns-then-not-ascending c).Else-not-in_range in
     let number = past ∙ met _ _ (ap not (sym c.tables_ascend-ascending.ensures ∙ c.if-not-ascending.true)) in
-    let q = refusing c.args.file.now _ FileOrder refl (sym number) in
+    let q = refusing _ _ FileOrder c.refused-then-not-ascending.ensures (sym number) in
     record { equation = q.equation; sound = q.sound }
 
-pub returns-in_err-check_state : goal.returns-in_err-check_state
-returns-in_err-check_state c =
-    let past = ranged (goal.at.returns-in_err-check_state c).Else-not-in_range in
+pub returns-in-Err-check_state : goal.returns-in-Err-check_state
+returns-in-Err-check_state c =
+    let past = ranged (goal.at.returns-in-Err-check_state c).Else-not-in_range in
     let ordered = ascending _ past c.tables_ascend-ascending.ensures c.if-not-ascending.false in
-    let p = err_from_is_err_and c.from_residual-in_err-check_state.result c.from_residual-in_err-check_state.ensures.1 in
-    let told = behind_tables _ ordered c.state_in-s.ensures c.in_err-check_state.ensures in
-    let q = refusing c.args.file.now _ p.0 p.1 (ap number p.2 ∙ told) in
+    let told = behind_tables _ ordered c.state_in-s.ensures c.in-Err-check_state.ensures in
+    let q = refusing _ _ _ c.refused-in-Err-check_state.ensures told in
     record { equation = q.equation; sound = q.sound }
 
 pub returns : goal.returns
 returns c =
     let past = ranged (goal.at.returns c).Else-not-in_range in
     let ordered = ascending _ past c.tables_ascend-ascending.ensures c.if-not-ascending.false in
-    let told = behind_tables _ ordered c.state_in-s.ensures c.in_ok-check_state.ensures in
+    let told = behind_tables _ ordered c.state_in-s.ensures c.in_default-check_state.ensures in
     let q = accepting c.args.file.now _ c.state_in-s.ensures told in
     record { equation = q.equation; sound = q.sound }
