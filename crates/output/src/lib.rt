@@ -18,6 +18,8 @@ pub fn put(out: &mut [u8], at: usize, byte: u8) -> usize
 {
     if at < out.len() {
         out[at] = byte;
+        // Inside the buffer no sum saturates, and a saturating one would cost as much as the write.
+        return at + 1;
     }
     at.saturating_add(1)
 }

@@ -22,7 +22,9 @@ fn write_rows<'a>(bytes: &'a mut [u8], at: usize, rows: &'a [u32])
     }
 }
 
-// Writes the state's record into the buffer: refused, and no byte written, if the buffer has another length.
+// Writes the state's record into the buffer: refused, and no byte written, if the buffer has another length. It is laid
+// into its callers, so that a constant state is written as a constant: called, it costs three times as much there.
+#[inline(always)]
 pub fn write(s: &State, buffer: &mut [u8]) -> Result<(), Refusal>
     ensures number { refusal_number result ≡ number_for buffer.old }
     ensures bytes { buffer.new ≡ stored buffer.old (site s.now) }
