@@ -24,7 +24,8 @@ fn tell(rt: &impl Print, name: &str, size: usize, area: u32) -> io::Result<()>
 {
     let text = label_finder::label(&FILE[..size], area);
     let length = text.len();
-    print!(rt; "{name}: {length} <")?;
+    print!(rt; "{name}")?;
+    print!(rt; ": {length} <")?;
     rt.write_all(text)?;
     println!(rt; ">")
 }

@@ -127,10 +127,19 @@ const CASES: [Command; 91] = [
     Ask(5, 255),
 ];
 
+// Each part is written by itself: an output that takes no more has all that came before, to the last part.
 fn ask(rt: &impl Print, s: &State, area: u8, object: u8) -> io::Result<()> {
+    print!(rt; "  area ")?;
+    print!(rt; "{area}")?;
+    print!(rt; ", object ")?;
+    print!(rt; "{object}")?;
     match search::steps(s, area, object) {
-        Some(n) => println!(rt; "  area {area}, object {object}: steps {n}"),
-        None => println!(rt; "  area {area}, object {object}: no access"),
+        Some(n) => {
+            print!(rt; ": steps ")?;
+            print!(rt; "{n}")?;
+            println!(rt)
+        }
+        None => println!(rt; ": no access"),
     }
 }
 
