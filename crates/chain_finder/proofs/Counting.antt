@@ -24,7 +24,10 @@ pub record Counted (n areas : ℕ) (counts₀ : List ℕ) (rest : ℕ) (counts :
   pub each : (a : ℕ) → a < places → counted n rest counts a ≡ counted n areas counts₀ a
 
 module _ (n areas : ℕ) (counts₀ : List ℕ) where
-  counted_more : (rest : ℕ) (counts : List ℕ) → (rest ≡ 0 → ⊥) → Counted n areas counts₀ rest counts
+  pub counted_none : areas < 2 ^ places → length counts₀ ≡ places → Counted n areas counts₀ areas counts₀
+  counted_none fits long = record { left = fits; long = long; each = λ a h. refl }
+
+  pub counted_more : (rest : ℕ) (counts : List ℕ) → (rest ≡ 0 → ⊥) → Counted n areas counts₀ rest counts
       → Counted n areas counts₀ (without_lowest rest) (set counts (lowest rest) n)
   counted_more rest counts some w =
       record {

@@ -24,7 +24,7 @@ use Rattle.lines.proofs.Words.{decimal_lacks}
 use Rattle.lines.proofs.Texts.{readable_exactly}
 
 module _ (bytes : List ℕ) (i : ℕ) (e : i ≡ index newline bytes) where
-  first_ended : i < length bytes → first_line_of bytes ≡ first (line_of (take i bytes)) (suc i)
+  pub first_ended : i < length bytes → first_line_of bytes ≡ first (line_of (take i bytes)) (suc i)
   unfolding first_line_of
   first_ended h = rw (← e, lt-ltb i (length bytes) h) refl
 

@@ -24,13 +24,13 @@ use Rattle.lines.proofs.Parts.{index_most, parts_found, parts_whole, parts_word,
 use Rattle.lines.proofs.Words.{decimal_lacks, number_is, number_of, number_lacks}
 
 -- ---- the numbers of a text, one by one
-abbrev numbers_of : List ℕ → List (Option ℕ)
+abbrev pub numbers_of : List ℕ → List (Option ℕ)
 numbers_of xs = map word_number (parts space xs)
 
-text_whole : (xs : List ℕ) → Lacks space xs → numbers_of xs ≡ word_number xs ∷ []
+pub text_whole : (xs : List ℕ) → Lacks space xs → numbers_of xs ≡ word_number xs ∷ []
 text_whole xs lacks = ap (map word_number) (parts_whole space xs lacks)
 
-text_first : (xs word rest : List ℕ) → xs ≡ word ++ (space ∷ rest) → Lacks space word
+pub text_first : (xs word rest : List ℕ) → xs ≡ word ++ (space ∷ rest) → Lacks space word
     → numbers_of xs ≡ word_number word ∷ numbers_of rest
 text_first xs word rest e lacks = ap numbers_of e ∙ ap (map word_number) (parts_word space word rest lacks)
 

@@ -1,7 +1,7 @@
 -- A walk over the areas of a row, the lowest first, for one without access: the areas that are left have it or lack it as the whole row does.
 -- Assumes nothing.
 use Prim.Native.Nat.{ℕ, ◌^◌, ◌<◌}
-use mathlib.Core.Path.{◌≡◌, sym, ap, ap₂, ◌∙◌}
+use mathlib.Core.Path.{◌≡◌, refl, sym, ap, ap₂, ◌∙◌}
 use mathlib.Core.Bool.{Bool, false, ◌&&◌, cond, and-false}
 use mathlib.Core.List.{List}
 use native.Mathlib.Omega.{arith}
@@ -25,6 +25,9 @@ pub record Passed (areas : ℕ) (counts : List ℕ) (rest : ℕ) : Type 0 where
   pub each : (a : ℕ) → a < places → lacks rest counts a ≡ lacks areas counts a
 
 module _ (areas : ℕ) (counts : List ℕ) where
+  pub passed_none : areas < 2 ^ places → Passed areas counts areas
+  passed_none fits = record { left = fits; each = λ a h. refl }
+
   module _ (rest : ℕ) (w : Passed areas counts rest) where
     module _ (some : rest ≡ 0 → ⊥) where
       abbrev low : ℕ

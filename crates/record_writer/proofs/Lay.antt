@@ -45,7 +45,7 @@ module _ (b : List ℕ) (at : ℕ) (rows : Rows) where
   pub laid_none : Laid 0 b
   laid_none = record { bytes = refl }
 
-  laid_as_long : (m : ℕ) (l : List ℕ) → Laid m l → length l ≡ length b
+  pub laid_as_long : (m : ℕ) (l : List ℕ) → Laid m l → length l ≡ length b
   laid_as_long m l t = ap length t.bytes ∙ length-sets b at (take m all)
 
   -- one byte more, in front of others

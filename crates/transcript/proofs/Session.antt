@@ -29,7 +29,7 @@ pub record Reached (n : ℕ) (input results : List ℕ) (lines : ℕ) (rest : Li
   pub after : session_state input ≡ state_after s (lines_of rest)
 
 -- what stands behind the first line, as the loop takes it
-part_from : (xs : List ℕ) (i : ℕ) → take (length xs - i) (drop i xs) ≡ drop i xs
+pub part_from : (xs : List ℕ) (i : ℕ) → take (length xs - i) (drop i xs) ≡ drop i xs
 part_from xs i = take_all (length xs - i) (drop i xs) (let left : length (drop i xs) ≡ length xs - i = length-drop i xs in omega arith)
 
 pub part_shorter : (xs : List ℕ) (i : ℕ) → 0 < i → i ≤ length xs → length (take (length xs - i) (drop i xs)) < length xs

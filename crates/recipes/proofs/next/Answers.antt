@@ -2,14 +2,14 @@
 -- Assumes nothing.
 use Rattle.std.proofs.Common.{◌≡◌, Err, ap, ◌∙◌, rules}
 use Rattle.successors.specs.Successor.{successor_of}
-use Rattle.machine.proofs.Decide.{misfit_number, found_number, refused_step, accepted_step}
+use Rattle.machine.proofs.Decide.{refused_number, found_number, refused_step, accepted_step}
 use Rattle.recipes.proofs.next.Goals as goal
 
 pub returns-in_err-x : goal.returns-in_err-x
 returns-in_err-x c =
     let refusal = c.in_err-x.field-0.0 in
     let given : c.from_residual.result ≡ Err refusal = search rules in
-    rw given (refused_step _ _ refusal (misfit_number _ _ c.requires refusal c.in_err-x.ensures.equation))
+    rw given (refused_step _ _ refusal (refused_number _ _ c.requires refusal c.in_err-x.ensures.equation))
 
 pub returns-in_err-check : goal.returns-in_err-check
 returns-in_err-check c =
