@@ -1,9 +1,10 @@
 #!/usr/bin/env bash
 # Sees that each claim has a proof of that very type. A claim is a name that a file of a crate's specs/ states by
 # 'abbrev pub NAME : Type 0' or 'unfoldable pub NAME : Type 0', but for names of lists, and for Answer, Bytes, Decoded,
-# Line and Picked, which are types of data. Its proof is a line 'pub some-name : NAME' with a definition of some-name
-# behind it, in a file that the proofs/Lib.antt of the same crate declares, where NAME stands alone and is that of the
-# crate's own specs/. It fails with the claims that have none.
+# Line and Picked where they name an Option, a Result or a type of the code and nothing more: these are types of data.
+# Its proof is a line 'pub some-name : NAME' with a definition of some-name behind it, in a file that the
+# proofs/Lib.antt of the same crate declares, where NAME stands alone and is that of the crate's own specs/. It fails
+# with the claims that have none.
 set -euo pipefail
 export LC_ALL=C
 cd "$(dirname "$0")/.."
@@ -48,9 +49,15 @@ judge_claims() {
             return front in imported ? imported[front] "." type : ""
         }
 
+        # Does the line name a type of data: one of these names, for an Option, a Result or a type of the code?
+        function names_data() {
+            return $0 ~ /^(Answer|Line|Picked) = Option [^ ]+$/ || $0 ~ /^Decoded = Result [^ ]+ [^ ]+$/ ||
+                $0 == "Bytes = DeclaredBytes"
+        }
+
         FNR == 1 { begin_file() }
         in_specs && $1 == stated && $2 == "=" && $3 == "List" { claims-- }
-        in_specs && $1 == stated && $2 == "=" && stated ~ /^(Answer|Bytes|Decoded|Line|Picked)$/ { claims-- }
+        in_specs && $1 == stated && names_data() { claims-- }
         in_specs { stated = "" }
         in_specs && /^(abbrev|unfoldable) pub [A-Z][^ ]* : Type 0$/ {
             stated = $3

@@ -77,6 +77,9 @@ module _ (step : State → Bytes → Outcome) (keeps : Steps step) where
       let after = run_stands (step s x).state rest (keeps.fits s x h) in
       (after.0 ∙ ap (λ (t : Site). run t rest) (stands s x) ∙ sym (run_more (site s) x rest), after.1)
 
+pub steps_by_contract : Claims.StepsByContract
+steps_by_contract answer left fits promise = record { fits = fits; promise = promise }
+
 pub same_step : Claims.SameStep
 same_step step keeps t h x =
     let new = new_of_old t h in

@@ -1,7 +1,9 @@
 -- "Show that old and new records stand for the same sound states one to one, and that every instruction and question
 -- gives the same answers on both." (document 02, point 11). Each claim is a type, which proofs/Laws.antt inhabits under
 -- the claim's name.
-use Rattle.std.specs.Prelude.{ℕ, ◌≡◌, ◌↔◌, List, [], ◌∷◌}
+use Rattle.std.specs.Prelude.{ℕ, ◌≡◌, ◌↔◌, List, [], ◌∷◌, Result}
+use Rattle.verdicts.specs.Refusals.{refusal_number}
+use Rattle.verdicts.specs.declared.Refusal.{Refusal}
 use Rattle.state.specs.Site.{Site, Shaped, verdict}
 use Rattle.state.specs.Stands.{site, Fits}
 use Rattle.state.specs.declared.State.{State}
@@ -28,17 +30,28 @@ abbrev pub SoundAlike : Type 0
 SoundAlike = (t : Site) → Shaped t → Sound t ↔ Sound (site (record_of t))
 
 -- ---- "every instruction and question gives the same answers on both"
--- What a step gives: the number of its refusal, 0 for none (verdicts, `refusal_number` of its result), and the record
--- that it leaves.
+-- What a step gives: the number of its refusal, 0 for none, and the record that it leaves.
 pub record Outcome : Type 0 where
   pub refusal : ℕ
   pub state : State
+
+-- of what `machine::step` answers, and the record as it leaves it
+abbrev pub as_outcome : Result Unit Refusal → State → Outcome
+as_outcome result s = record { refusal = refusal_number result; state = s }
 
 -- What `machine::step` promises, of any function on new records: its number and its state are those of `step_of`, the
 -- machine on old records.
 pub record Steps (step : State → Bytes → Outcome) : Type 0 where
   pub fits : (s : State) (x : Bytes) → Fits s → Fits (step s x).state
   pub promise : (s : State) (x : Bytes) → verdict (step s x).refusal (site (step s x).state) ≡ step_of (site s) x
+
+-- so `machine::step` is such a function: what its contract says of its answer, and of the record as it leaves it
+abbrev pub StepsByContract : Type 0
+StepsByContract =
+    (answer : State → Bytes → Result Unit Refusal) (left : State → Bytes → State)
+    → ((s : State) (x : Bytes) → Fits s → Fits (left s x))
+    → ((s : State) (x : Bytes) → verdict (refusal_number (answer s x)) (site (left s x)) ≡ step_of (site s) x)
+    → Steps (λ (s : State) (x : Bytes). as_outcome (answer s x) (left s x))
 
 -- the same number, and the new record of the same state
 pub record SameOutcome (step : State → Bytes → Outcome) (t : Site) (x : Bytes) : Type 0 where
